@@ -25,16 +25,16 @@ impl Sum {
     pub fn new(number: u32) -> Sum
         ensures { λ r. ⌜ r ≡ sumOf number ⌝ }
     {
-        Sum {
-            number: number.min(OVER),
-        }
+        let sum = number.min(OVER);
+        Sum { number: sum }
     }
 
     // 2,147,483,648 for over.
     pub fn number(self) -> u32
         ensures { λ r. ⌜ r ≡ self .number ⌝ }
     {
-        self.number
+        let Sum { number } = self;
+        number
     }
 }
 
@@ -90,16 +90,16 @@ impl Worst {
     pub fn new(number: u32) -> Worst
         ensures { λ r. ⌜ r ≡ worstOf number ⌝ }
     {
-        Worst {
-            number: number.min(OVER),
-        }
+        let worst = number.min(OVER);
+        Worst { number: worst }
     }
 
     // 2,147,483,648 for over.
     pub fn number(self) -> u32
         ensures { λ r. ⌜ r ≡ self .number ⌝ }
     {
-        self.number
+        let Worst { number } = self;
+        number
     }
 }
 

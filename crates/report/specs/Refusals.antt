@@ -4,6 +4,8 @@ use mathlib.Core.List.{List, [], _∷_}
 use Prim.Native.Nat.{ℕ}
 use Rattle.std.specs.declared.option.Option.{Option}
 use Rattle.std.specs.declared.option.Option.the-variants.{Some, None}
+use Rattle.std.specs.declared.result.Result.{Result}
+use Rattle.std.specs.declared.result.Result.the-variants.{Err}
 use Rattle.report.specs.declared.Refusal.{Refusal}
 use Rattle.report.specs.declared.Refusal.the-variants.{CatalogueSize, QuoteBookSize, SitesDiffer, NoSuchLink, NoSuchCard, NoSuchSite, EndsMeet, ValueNotAdmitted, LimitNotAdmitted, LinkTaken, LinkEmpty, CardFilled, CardEmpty, WorkspaceSize, ReplyTooShort, LabelsFull, UnknownKind, CutShort, BufferTooShort}
 use Rattle.report.specs.declared.Returned.{Returned}
@@ -63,3 +65,8 @@ values (Two a b) = a ∷ b ∷ []
 abbrev pub topmost : List (Bool × Refusal) → Option Refusal
 topmost [] = None
 topmost (c ∷ cs) = cond (c .0) (Some (c .1)) (topmost cs)
+
+-- what a call answers: the refusal, where a cause holds, and else this
+abbrev pub unless : {A : Type 0} → Option Refusal → Result A Refusal → Result A Refusal
+unless (Some why) answer = Err why
+unless None answer = answer
