@@ -1,0 +1,2 @@
+mod Pasting
+mod Wording
