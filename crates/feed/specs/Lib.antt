@@ -1,0 +1,3 @@
+pub mod Feed
+pub mod Write
+pub mod RoundTrip

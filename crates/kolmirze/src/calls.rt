@@ -1,0 +1,71 @@
+//! Feed records as calls on the trunk catalogue, and what they answer as replies.
+ghost use mathlib.Core.Path.{_≡_};
+ghost use denote.Ref.{name};
+ghost use Rattle.kolmirze.specs.Serving.{served, links-after, value-of};
+use catalogue::Catalogue;
+use catalogue::Link;
+use feed::Measures;
+use feed::Record;
+use line::Reply;
+use measure::pair::PairMeasure;
+use measure::pair::Trunk;
+use measure::pair::trunk_value;
+use measure::scalar::SumMeasure;
+use measure::scalar::WorstMeasure;
+
+// What became of a record.
+#[derive(Clone, Copy)]
+pub enum Served {
+    Reply(Reply),
+    // Quotes and their cards are still to come.
+    NotYet,
+}
+
+fn value(measures: Measures) -> Trunk
+    ensures { λ r. ⌜ r ≡ value-of measures ⌝ }
+{
+    trunk_value(measures.delay, measures.price, measures.class)
+}
+
+// Carries out what the record asks of the catalogue. No card exists yet, so none falls into doubt.
+pub fn serve(catalogue: &mut Catalogue<'_, Trunk>, record: Record) -> Served
+    ensures reply { λ r. ⌜ r ≡ served (now (catalogue .entry) .sites) (now (now (catalogue .entry) .links)) «record» ⌝ }
+    ensures links { λ _. ⌜ now (now (catalogue .exit) .links) ≡ links-after (now (catalogue .entry) .sites) (now (now (catalogue .entry) .links)) «record» ⌝ }
+    ensures sites { λ _. ⌜ now (catalogue .exit) .sites ≡ now (catalogue .entry) .sites ⌝ }
+    ensures same { λ _. ⌜ name (now (catalogue .exit) .links) ≡ name (now (catalogue .entry) .links) ⌝ }
+{
+    let result = match record {
+        Record::Offer {
+            link,
+            start,
+            end,
+            measures,
+        } => {
+            let offered = Link {
+                start,
+                end,
+                value: value(measures),
+            };
+            match catalogue.store(link as usize, offered) {
+                Ok(_) => Ok(0),
+                Err(why) => Err(why)
+            }
+        }
+        Record::Change { link, measures } => match catalogue.replace(
+            link as usize,
+            value(measures),
+        ) {
+            Ok(_) => Ok(0),
+            Err(why) => Err(why)
+        },
+        Record::Withdraw { link } => match catalogue.remove(link as usize) {
+            Ok(_) => Ok(0),
+            Err(why) => Err(why)
+        },
+        _ => return Served::NotYet,
+    };
+    match result {
+        Ok(count) => Served::Reply(Reply::Counted(count)),
+        Err(why) => Served::Reply(Reply::Refused(why)),
+    }
+}
