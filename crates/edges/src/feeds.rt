@@ -91,7 +91,8 @@ fn too_short_a_buffer_is_left_as_it_was() -> Result<(), Fail> {
 #[test]
 fn other_kinds_are_unknown() -> Result<(), Fail> {
     for kind in 0..=255u8 {
-        let (reading, rest) = read_record(&[3, kind, 0, 0], 1);
+        let bytes = [3, kind, 0, 0];
+        let (reading, rest) = read_record(&bytes, 1);
         let unknown = reading == Reading::Refused(Refusal::UnknownKind { place: 1 });
         check_eq(unknown, kind < 1 || 7 < kind)?;
         check(rest.is_empty())?;
@@ -102,7 +103,8 @@ fn other_kinds_are_unknown() -> Result<(), Fail> {
 #[test]
 fn nothing_stands_past_the_end() -> Result<(), Fail> {
     for start in [3, 4, usize::MAX] {
-        let (reading, rest) = read_record(&[3, 0, 0], start);
+        let bytes = [3, 0, 0];
+        let (reading, rest) = read_record(&bytes, start);
         check_eq(reading, Reading::Nothing)?;
         check(rest.is_empty())?;
     }

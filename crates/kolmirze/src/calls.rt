@@ -1,7 +1,7 @@
 //! Feed records as calls on the trunk catalogue, and what they answer as replies.
 ghost use mathlib.Core.Path.{_≡_};
 ghost use denote.Ref.{name};
-ghost use Rattle.kolmirze.specs.Serving.{served, links-after, value-of};
+ghost use Rattle.kolmirze.specs.Serving.{counted, served, links-after, value-of};
 use catalogue::Catalogue;
 use catalogue::Link;
 use feed::Measures;
@@ -12,6 +12,7 @@ use measure::pair::Trunk;
 use measure::pair::trunk_value;
 use measure::scalar::SumMeasure;
 use measure::scalar::WorstMeasure;
+use report::Refusal;
 
 // What became of a record.
 #[derive(Clone, Copy)]
@@ -27,6 +28,16 @@ fn value(measures: Measures) -> Trunk
     trunk_value(measures.delay, measures.price, measures.class)
 }
 
+// The reply to a call that put no card in doubt.
+fn count_none<T: Copy>(result: Result<T, Refusal>) -> Served
+    ensures { λ r. ⌜ r ≡ counted result ⌝ }
+{
+    match result {
+        Ok(_) => Served::Reply(Reply::Counted(0)),
+        Err(why) => Served::Reply(Reply::Refused(why)),
+    }
+}
+
 // Carries out what the record asks of the catalogue. No card exists yet, so none falls into doubt.
 pub fn serve(catalogue: &mut Catalogue<'_, Trunk>, record: Record) -> Served
     ensures reply { λ r. ⌜ r ≡ served (now (catalogue .entry) .sites) (now (now (catalogue .entry) .links)) «record» ⌝ }
@@ -34,38 +45,21 @@ pub fn serve(catalogue: &mut Catalogue<'_, Trunk>, record: Record) -> Served
     ensures sites { λ _. ⌜ now (catalogue .exit) .sites ≡ now (catalogue .entry) .sites ⌝ }
     ensures same { λ _. ⌜ name (now (catalogue .exit) .links) ≡ name (now (catalogue .entry) .links) ⌝ }
 {
-    let result = match record {
+    match record {
         Record::Offer {
             link,
             start,
             end,
             measures,
         } => {
-            let offered = Link {
-                start,
-                end,
-                value: value(measures),
-            };
-            match catalogue.store(link as usize, offered) {
-                Ok(_) => Ok(0),
-                Err(why) => Err(why)
-            }
+            let value = value(measures);
+            count_none(catalogue.store(link as usize, Link { start, end, value }))
         }
-        Record::Change { link, measures } => match catalogue.replace(
-            link as usize,
-            value(measures),
-        ) {
-            Ok(_) => Ok(0),
-            Err(why) => Err(why)
-        },
-        Record::Withdraw { link } => match catalogue.remove(link as usize) {
-            Ok(_) => Ok(0),
-            Err(why) => Err(why)
-        },
-        _ => return Served::NotYet,
-    };
-    match result {
-        Ok(count) => Served::Reply(Reply::Counted(count)),
-        Err(why) => Served::Reply(Reply::Refused(why)),
+        Record::Change { link, measures } => {
+            let value = value(measures);
+            count_none(catalogue.replace(link as usize, value))
+        }
+        Record::Withdraw { link } => count_none(catalogue.remove(link as usize)),
+        _ => Served::NotYet,
     }
 }
