@@ -1,3 +1,4 @@
 pub mod Places
 pub mod Calls
 pub mod Walks
+pub mod Routes

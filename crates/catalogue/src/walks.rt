@@ -1,5 +1,7 @@
 //! Walks along the links of anything that answers the questions of a catalogue.
-ghost use Rattle.catalogue.specs.Walks.{Follows};
+ghost use mathlib.Core.Path.{_≡_};
+ghost use Rattle.catalogue.specs.Walks.{extend, Follows};
+use crate::Link;
 use crate::Links;
 use measure::Measure;
 
@@ -8,6 +10,13 @@ use measure::Measure;
 pub struct Reached<M> {
     pub site: u16,
     pub value: M,
+}
+
+// What a walk of this value is worth with the link more at its end.
+pub fn extended<M: Measure>(value: M, link: Link<M>) -> M
+    ensures { λ r. ⌜ r ≡ extend (M·Measure .kind) value (link .value) ⌝ }
+{
+    value.join(link.value)
 }
 
 // Where the legs lead from the source, and what that walk is worth; none where they are no walk.
@@ -24,7 +33,7 @@ pub fn follow<M: Measure, N: Links<M>>(network: &N, source: u16, legs: &[u16]) -
             return None;
         }
         site = link.end;
-        value = value.join(link.value);
+        value = extended(value, link);
     }
     Some(Reached { site, value })
 }

@@ -1,3 +1,4 @@
 pub mod Fractions
 pub mod Paired
 pub mod Numbers
+pub mod Ranking
