@@ -1,7 +1,9 @@
 -- What becomes of a record, while there are no cards.
+use mathlib.Core.Path.{_≡_}
 use mathlib.Core.List.{List}
 use Prim.Native.Nat.{ℕ}
 use Rattle.std.specs.declared.option.Option.{Option}
+use Rattle.std.specs.declared.option.Option.the-variants.{Some, None}
 use Rattle.std.specs.declared.result.Result.{Result}
 use Rattle.std.specs.declared.result.Result.the-variants.{Ok, Err}
 use Rattle.measure.specs.declared.pair.Pair.{Pair}
@@ -14,7 +16,13 @@ use Rattle.catalogue.specs.Calls.{store-answer, stored, replace-answer, replace
 use Rattle.feed.specs.declared.Measures.{Measures}
 use Rattle.feed.specs.declared.Record.{Record}
 use Rattle.feed.specs.declared.Record.the-variants.{Offer, Change, Withdraw, Quote, Recheck, Discard, Read}
-use Rattle.line.specs.declared.Reply.the-variants.{Counted, Refused}
+use Rattle.line.specs.declared.Reply.{Reply as Printed}
+use Rattle.line.specs.declared.Reply.the-variants.{Counted, Route as Route-reply, NoRoute, Refused}
+use Rattle.report.specs.declared.Mark.the-variants.{Standing}
+use Rattle.labels.specs.declared.Label.{Label}
+use Rattle.search.specs.declared.Ask.{Ask}
+use Rattle.search.specs.declared.Route.{Route}
+use Rattle.search.specs.Searching.{Searched}
 use Rattle.kolmirze.specs.declared.calls.Served.{Served}
 use Rattle.kolmirze.specs.declared.calls.Served.the-variants.{Reply, NotYet}
 
@@ -52,3 +60,20 @@ links-after sites links (Quote card source destination limits) = links
 links-after sites links (Recheck card) = links
 links-after sites links (Discard card) = links
 links-after sites links (Read card) = links
+
+-- what is printed of a search's answer, and how many of the row's numbers are its legs
+abbrev pub reply-of : Result (Option (Route TrunkValue)) Refusal → Printed
+reply-of (Ok (Some route)) = Route-reply Standing (route .ratio) (route .value)
+reply-of (Ok None) = NoRoute Standing
+reply-of (Err why) = Refused why
+
+abbrev pub legs-of : Result (Option (Route TrunkValue)) Refusal → ℕ
+legs-of (Ok (Some route)) = route .legs
+legs-of (Ok None) = 0
+legs-of (Err why) = 0
+
+-- a quote's reply is what a search answers, and the search leaves the labels and the row as it promises
+abbrev pub Quoted : ℕ → List (Option (Link TrunkValue)) → ℕ → Ask (Pair (Pair ℕ ℕ) ℕ) → List (Label TrunkValue) → List (Label TrunkValue) → List ℕ → List ℕ → Printed → ℕ → Type 0
+Quoted sites links k ask labels labels' row row' reply legs =
+    (answer : Result (Option (Route TrunkValue)) Refusal) × Searched trunk-kind sites links k ask labels labels' row row' answer
+    × (reply ≡ reply-of answer) × (legs ≡ legs-of answer)

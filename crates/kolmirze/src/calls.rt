@@ -1,24 +1,31 @@
 //! Feed records as calls on the trunk catalogue, and what they answer as replies.
 ghost use mathlib.Core.Path.{_≡_};
 ghost use denote.Ref.{name};
-ghost use Rattle.kolmirze.specs.Serving.{counted, served, links-after, value-of};
+ghost use Rattle.kolmirze.specs.Serving.{counted, served, links-after, value-of, reply-of, legs-of, Quoted};
 use catalogue::Catalogue;
+use catalogue::CatalogueLinks;
 use catalogue::Link;
 use feed::Measures;
 use feed::Record;
+use labels::Label;
 use line::Reply;
 use measure::pair::PairMeasure;
 use measure::pair::Trunk;
+use measure::pair::TrunkLimit;
 use measure::pair::trunk_value;
 use measure::scalar::SumMeasure;
 use measure::scalar::WorstMeasure;
+use report::Mark;
 use report::Refusal;
+use search::Ask;
+use search::Route;
+use search::search;
 
 // What became of a record.
 #[derive(Clone, Copy)]
 pub enum Served {
     Reply(Reply),
-    // Quotes and their cards are still to come.
+    // Cards are still to come.
     NotYet,
 }
 
@@ -38,7 +45,7 @@ fn count_none<T: Copy>(result: Result<T, Refusal>) -> Served
     }
 }
 
-// Carries out what the record asks of the catalogue. No card exists yet, so none falls into doubt.
+// Carries out an offer, a change or a withdrawal. No card exists yet, so none falls into doubt.
 pub fn serve(catalogue: &mut Catalogue<'_, Trunk>, record: Record) -> Served
     ensures reply { λ r. ⌜ r ≡ served (now (catalogue .entry) .sites) (now (now (catalogue .entry) .links)) «record» ⌝ }
     ensures links { λ _. ⌜ now (now (catalogue .exit) .links) ≡ links-after (now (catalogue .entry) .sites) (now (now (catalogue .entry) .links)) «record» ⌝ }
@@ -62,4 +69,37 @@ pub fn serve(catalogue: &mut Catalogue<'_, Trunk>, record: Record) -> Served
         Record::Withdraw { link } => count_none(catalogue.remove(link as usize)),
         _ => Served::NotYet,
     }
+}
+
+// The reply to a search, and how many legs of the row belong to it.
+fn reply_to(answer: Result<Option<Route<Trunk>>, Refusal>) -> (Reply, usize)
+    ensures { λ r. ⌜ (r .0 ≡ reply-of answer) × (r .1 ≡ legs-of answer) ⌝ }
+{
+    match answer {
+        Ok(Some(route)) => {
+            let Route { legs, value, ratio } = route;
+            let mark = Mark::Standing;
+            (Reply::Route { mark, ratio, value }, legs)
+        }
+        Ok(None) => (
+            Reply::NoRoute {
+                mark: Mark::Standing,
+            },
+            0,
+        ),
+        Err(why) => (Reply::Refused(why), 0),
+    }
+}
+
+// Searches for the best route that a quote asks for, and writes its legs to the row. No card is filled yet.
+pub fn quote(
+    catalogue: &Catalogue<'_, Trunk>,
+    labels: &mut [Label<Trunk>],
+    k: usize,
+    ask: Ask<TrunkLimit>,
+    row: &mut [u16],
+) -> (Reply, usize)
+    ensures { λ r. ⌜ Quoted (now (catalogue .entry) .sites) (now (now (catalogue .entry) .links)) k ask (now (labels .entry)) (now (labels .exit)) (now (row .entry)) (now (row .exit)) (r .0) (r .1) ⌝ }
+{
+    reply_to(search(catalogue, labels, k, ask, row))
 }

@@ -4,7 +4,7 @@ ghost use mathlib.Core.Bool.{true, false};
 ghost use Prim.Native.Nat.{ℕ, _+_, _<_, _≤_};
 ghost use lib.ListN.{length};
 ghost use Rattle.std.specs.Options.{Cases as BySome};
-ghost use Rattle.measure.specs.Ranks.{Is};
+ghost use Rattle.measure.specs.Ranks.{Is, ranks};
 ghost use Rattle.labels.specs.Labels.{isHeld, isQueued, table, Fits, First-below, covers, Held, Next-link, starts-at};
 ghost use Rattle.catalogue.specs.Places.{at as place-at};
 use catalogue::Links;
@@ -13,7 +13,7 @@ use labels::State;
 use measure::Measure;
 use measure::ranks_before;
 
-pub fn is_held(state: State) -> bool
+pub(crate) fn is_held(state: State) -> bool
     ensures { λ r. ⌜ r ≡ isHeld state ⌝ }
 {
     match state {
@@ -22,7 +22,7 @@ pub fn is_held(state: State) -> bool
     }
 }
 
-pub fn is_queued(state: State) -> bool
+pub(crate) fn is_queued(state: State) -> bool
     ensures { λ r. ⌜ r ≡ isQueued state ⌝ }
 {
     match state {
@@ -32,11 +32,18 @@ pub fn is_queued(state: State) -> bool
 }
 
 // The label at a place.
-pub fn at<M: Measure>(labels: &[Label<M>], i: usize) -> Label<M>
+pub(crate) fn at<M: Measure>(labels: &[Label<M>], i: usize) -> Label<M>
     requires { ⌜ i < length (now labels) ⌝ }
     ensures { λ r. ⌜ r ≡ table (M·Measure .kind) (now (labels .entry)) i ⌝ }
 {
     labels[i]
+}
+
+// Whether the label ranks before the leader.
+fn outranks<M: Measure>(label: Label<M>, leader: Label<M>, limit: M::Limit) -> bool
+    ensures { λ r. ⌜ r ≡ ranks (M·Measure .kind) limit (label .value) (leader .value) ⌝ }
+{
+    ranks_before(label.value, leader.value, limit)
 }
 
 // The better of the leader so far and the label at `i`.
@@ -60,7 +67,7 @@ fn better<M: Measure>(
         return Some(i);
     };
     let leader = at(labels, b);
-    if ranks_before(label.value, leader.value, limit) {
+    if outranks(label, leader, limit) {
         Some(i)
     } else {
         Some(b)
@@ -68,7 +75,7 @@ fn better<M: Measure>(
 }
 
 // The queued label of first rank.
-pub fn first_queued<M: Measure>(labels: &[Label<M>], limit: M::Limit) -> Option<usize>
+pub(crate) fn first_queued<M: Measure>(labels: &[Label<M>], limit: M::Limit) -> Option<usize>
     requires admitted { ⌜ Is (M·Measure .kind .limit-admitted limit) ⌝ }
     requires fits { ⌜ Fits (M·Measure .kind) limit (table (M·Measure .kind) (now labels)) ⌝ }
     ensures { λ r. ⌜ First-below (M·Measure .kind) limit (table (M·Measure .kind) (now (labels .entry))) (length (now (labels .entry))) r ⌝ }
@@ -81,7 +88,12 @@ pub fn first_queued<M: Measure>(labels: &[Label<M>], limit: M::Limit) -> Option<
 }
 
 // Whether a label that is held, from `start` on and below `end`, dominates `value`.
-pub fn is_dominated<M: Measure>(labels: &[Label<M>], start: usize, end: usize, value: M) -> bool
+pub(crate) fn is_dominated<M: Measure>(
+    labels: &[Label<M>],
+    start: usize,
+    end: usize,
+    value: M,
+) -> bool
     requires order { ⌜ start ≤ end ⌝ }
     requires inside { ⌜ end ≤ length (now labels) ⌝ }
     ensures some { λ r. ⌜ (r ≡ true → (p : ℕ) × (start ≤ p) × (p < end) × Is (covers (M·Measure .kind) value (table (M·Measure .kind) (now (labels .entry)) p))) ⌝ }
@@ -97,7 +109,7 @@ pub fn is_dominated<M: Measure>(labels: &[Label<M>], start: usize, end: usize, v
 }
 
 // A place that is free, from `start` on and below `end`.
-pub fn free_place<M: Measure>(labels: &[Label<M>], start: usize, end: usize) -> Option<usize>
+pub(crate) fn free_place<M: Measure>(labels: &[Label<M>], start: usize, end: usize) -> Option<usize>
     requires order { ⌜ start ≤ end ⌝ }
     requires inside { ⌜ end ≤ length (now labels) ⌝ }
     ensures { λ r. ⌜ BySome r ((p : ℕ) → start ≤ p → p < end → Held (table (M·Measure .kind) (now (labels .entry))) p) (λ p. (start ≤ p) × (p < end) × (isHeld (table (M·Measure .kind) (now (labels .entry)) p .state) ≡ false)) ⌝ }
@@ -122,7 +134,11 @@ fn starts_from<M: Measure, N: Links<M>>(network: &N, site: usize, place: usize) 
 }
 
 // The first place from `from` on that holds a link from the site.
-pub fn link_from<M: Measure, N: Links<M>>(network: &N, site: usize, from: usize) -> Option<usize>
+pub(crate) fn link_from<M: Measure, N: Links<M>>(
+    network: &N,
+    site: usize,
+    from: usize,
+) -> Option<usize>
     ensures { λ r. ⌜ Next-link (N·Links .links (now (network .entry))) site from r ⌝ }
 {
     for i in from..network.places() {

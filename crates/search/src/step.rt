@@ -21,7 +21,7 @@ use measure::Measure;
 
 // The sites that the walks searched for join.
 #[derive(Clone, Copy)]
-pub struct Ends {
+pub(crate) struct Ends {
     pub from: usize,
     pub to: usize,
 }
@@ -53,7 +53,7 @@ fn clear_dominated<M: Measure>(labels: &mut [Label<M>], start: usize, end: usize
 }
 
 // Settles the label at `h`.
-pub fn settle<M: Measure>(labels: &mut [Label<M>], h: usize)
+pub(crate) fn settle<M: Measure>(labels: &mut [Label<M>], h: usize)
     requires { ⌜ h < length (now labels) ⌝ }
     ensures { λ _. ⌜ Settles (table (M·Measure .kind) (now (labels .entry))) (table (M·Measure .kind) (now (labels .exit))) h ⌝ }
 {
@@ -159,7 +159,7 @@ fn extend_by<M: Measure, N: Links<M>>(
 }
 
 // Extends the label at `h`, which stands at `site`, by every link from there, or says which site is full.
-pub fn extend<M: Measure, N: Links<M>>(
+pub(crate) fn extend<M: Measure, N: Links<M>>(
     labels: &mut [Label<M>],
     network: &N,
     k: usize,
@@ -186,7 +186,7 @@ pub fn extend<M: Measure, N: Links<M>>(
 }
 
 // Frees every label.
-pub fn free_all<M: Measure>(labels: &mut [Label<M>])
+pub(crate) fn free_all<M: Measure>(labels: &mut [Label<M>])
     ensures { λ _. ⌜ Frees (table (M·Measure .kind) (now (labels .exit))) (length (now (labels .exit))) ⌝ }
 {
     for i in 0..labels.len() {
@@ -199,7 +199,7 @@ pub fn free_all<M: Measure>(labels: &mut [Label<M>])
 }
 
 // Leaves one label, at `x`: queued, with the empty value.
-pub fn prepare<M: Measure>(labels: &mut [Label<M>], x: usize)
+pub(crate) fn prepare<M: Measure>(labels: &mut [Label<M>], x: usize)
     requires { ⌜ x < length (now labels) ⌝ }
     ensures { λ _. ⌜ Starts (M·Measure .kind) (table (M·Measure .kind) (now (labels .exit))) x ⌝ }
 {
