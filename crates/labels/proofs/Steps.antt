@@ -1,4 +1,4 @@
--- C and D: what a step of the search keeps.
+-- What a step of the search keeps.
 use mathlib.Core.Path.{_≡_, refl, sym, ap, subst, subst₂, _∙_}
 use mathlib.Core.Bool.{Bool, true, false, cond}
 use mathlib.Core.List.{List, [], _∷_, _++_}
@@ -133,7 +133,7 @@ module _ {V L : Type 0} {K : Kind V L} (laws : Laws K) (l : L) (adm : Is (K .lim
     after : (p : ℕ) → Done A p → ranks K l n (A p .value) ≡ false
     after p d = rank-trans laws l adm (A p .value) (A h .value) n (kept .fit p (done-held _ d)) fit-h fit-n (last p d) (rank-extend laws l adm (A h .value) c (fit-h .made) made-c fit-n)
 
-    -- C: the newcomer dominates no settled label at its site
+    -- the newcomer dominates no settled label at its site
     pub settled-stays : (p : ℕ) → In k t p → Done A p → K .dominates n (A p .value) ≡ false
     settled-stays p ap d =
         ⊎-elim
@@ -143,7 +143,7 @@ module _ {V L : Type 0} {K : Kind V L} (laws : Laws K) (l : L) (adm : Is (K .lim
         (λ e. e)
         (cases-bool (K .dominates n (A p .value)))
 
-    -- D: k labels held at t, none of which the newcomer dominates, and the newcomer
+    -- k labels held at t, none of which the newcomer dominates, and the newcomer
     pub crowded : ((p : ℕ) → In k t p → Held A p × (Waits A p → K .dominates n (A p .value) ≡ false)) → Crowded K l Lead k src t
     crowded full = record {
       value = value;

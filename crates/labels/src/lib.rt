@@ -1,6 +1,5 @@
 //! The labels of a label-setting search, and what such a search keeps of them. There is no code here: the mathematics of the search
 //! stands below its code, so that a change of the code does not prove it again.
-use measure::Measure;
 
 // What a label's place is used for. A queued label is still to be extended, and may give up its place; a settled one is for good.
 #[derive(Clone, Copy)]
