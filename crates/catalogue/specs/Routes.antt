@@ -1,4 +1,4 @@
--- What a search answers: the best walk, that there is none, or that a site has too many to hold.
+-- What routing answers: the best walk, that there is none, or that a site has too many to hold.
 use mathlib.Core.Path.{_≡_}
 use mathlib.Core.Bool.{false}
 use mathlib.Core.List.{List}

@@ -22,7 +22,7 @@ pub struct Link<M> {
     pub value: M,
 }
 
-// What can be asked of anything that holds links: a search needs no more.
+// What can be asked of anything that holds links: routing needs no more.
 pub trait Links<M: Measure> {
     // the places, each with its link or none
     ghost links: { Self → List (Maybe (Edge M)) };

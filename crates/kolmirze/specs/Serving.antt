@@ -20,9 +20,9 @@ use Rattle.line.specs.declared.Reply.{Reply as Printed}
 use Rattle.line.specs.declared.Reply.the-variants.{Counted, Route as Route-reply, NoRoute, Refused}
 use Rattle.report.specs.declared.Mark.the-variants.{Standing}
 use Rattle.labels.specs.declared.Label.{Label}
-use Rattle.search.specs.declared.Ask.{Ask}
-use Rattle.search.specs.declared.Route.{Route}
-use Rattle.search.specs.Searching.{Searched}
+use Rattle.routing.specs.declared.Ask.{Ask}
+use Rattle.routing.specs.declared.Route.{Route}
+use Rattle.routing.specs.Searching.{Searched}
 use Rattle.kolmirze.specs.declared.calls.Served.{Served}
 use Rattle.kolmirze.specs.declared.calls.Served.the-variants.{Reply, NotYet}
 
@@ -61,7 +61,7 @@ links-after sites links (Recheck card) = links
 links-after sites links (Discard card) = links
 links-after sites links (Read card) = links
 
--- what is printed of a search's answer, and how many of the row's numbers are its legs
+-- what is printed of an answer of routing, and how many of the row's numbers are its legs
 abbrev pub reply-of : Result (Option (Route TrunkValue)) Refusal → Printed
 reply-of (Ok (Some route)) = Route-reply Standing (route .ratio) (route .value)
 reply-of (Ok None) = NoRoute Standing
@@ -72,7 +72,7 @@ legs-of (Ok (Some route)) = route .legs
 legs-of (Ok None) = 0
 legs-of (Err why) = 0
 
--- a quote's reply is what a search answers, and the search leaves the labels and the row as it promises
+-- a quote's reply is what routing answers, and routing leaves the labels and the row as it promises
 abbrev pub Quoted : ℕ → List (Option (Link TrunkValue)) → ℕ → Ask (Pair (Pair ℕ ℕ) ℕ) → List (Label TrunkValue) → List (Label TrunkValue) → List ℕ → List ℕ → Printed → ℕ → Type 0
 Quoted sites links k ask labels labels' row row' reply legs =
     (answer : Result (Option (Route TrunkValue)) Refusal) × Searched trunk-kind sites links k ask labels labels' row row' answer

@@ -17,9 +17,9 @@ use measure::scalar::SumMeasure;
 use measure::scalar::WorstMeasure;
 use report::Mark;
 use report::Refusal;
-use search::Ask;
-use search::Route;
-use search::search;
+use routing::Ask;
+use routing::Route;
+use routing::find_route;
 
 // What became of a record.
 #[derive(Clone, Copy)]
@@ -71,7 +71,7 @@ pub fn serve(catalogue: &mut Catalogue<'_, Trunk>, record: Record) -> Served
     }
 }
 
-// The reply to a search, and how many legs of the row belong to it.
+// The reply to what routing answered, and how many legs of the row belong to it.
 fn reply_to(answer: Result<Option<Route<Trunk>>, Refusal>) -> (Reply, usize)
     ensures { λ r. ⌜ (r .0 ≡ reply-of answer) × (r .1 ≡ legs-of answer) ⌝ }
 {
@@ -91,7 +91,7 @@ fn reply_to(answer: Result<Option<Route<Trunk>>, Refusal>) -> (Reply, usize)
     }
 }
 
-// Searches for the best route that a quote asks for, and writes its legs to the row. No card is filled yet.
+// Finds the best route that a quote asks for, and writes its legs to the row. No card is filled yet.
 pub fn quote(
     catalogue: &Catalogue<'_, Trunk>,
     labels: &mut [Label<Trunk>],
@@ -101,5 +101,5 @@ pub fn quote(
 ) -> (Reply, usize)
     ensures { λ r. ⌜ Quoted (now (catalogue .entry) .sites) (now (now (catalogue .entry) .links)) k ask (now (labels .entry)) (now (labels .exit)) (now (row .entry)) (now (row .exit)) (r .0) (r .1) ⌝ }
 {
-    reply_to(search(catalogue, labels, k, ask, row))
+    reply_to(find_route(catalogue, labels, k, ask, row))
 }

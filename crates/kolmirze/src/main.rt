@@ -19,8 +19,8 @@ use measure::pair::TrunkLimit;
 use measure::pair::trunk_limits;
 use measure::scalar::SumMeasure;
 use measure::scalar::WorstMeasure;
-use search::Ask;
-use search::free_label;
+use routing::Ask;
+use routing::free_label;
 use std::error::AnyError;
 use std::io;
 use std::io::Read;
@@ -32,7 +32,7 @@ const SITES: usize = 16;
 
 const PLACES: usize = 32;
 
-// How many walks a search can hold at a site.
+// How many walks routing can hold at a site.
 const LABELS: usize = 8;
 
 const WORKSPACE: usize = 128;
@@ -74,7 +74,7 @@ fn print_line(rt: &LibcRuntime, number: usize, reply: Reply, legs: &[u16]) -> Re
     Ok(())
 }
 
-// Answers a quote by a search, and prints its line.
+// Answers a quote by its best route, and prints its line.
 fn print_quote(
     rt: &LibcRuntime,
     number: usize,

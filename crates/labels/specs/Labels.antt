@@ -1,4 +1,4 @@
--- The labels of a search, as a table from places to labels, and what the search keeps of them. All of this serves the proof of the search:
+-- The labels of routing, as a table from places to labels, and what is kept of them from turn to turn. All of this serves the proof of routing:
 -- what it promises in the end is said of walks alone.
 use mathlib.Core.Path.{_≡_}
 use mathlib.Core.Bool.{Bool, true, false, cond, _&&_}

@@ -1,4 +1,4 @@
-//! The labels of a label-setting search, and what such a search keeps of them. There is no code here: the mathematics of the search
+//! The labels of label-setting routing, and what is kept of them from turn to turn. There is no code here: the mathematics of routing
 //! stands below its code, so that a change of the code does not prove it again.
 
 // What a label's place is used for. A queued label is still to be extended, and may give up its place; a settled one is for good.
@@ -9,7 +9,7 @@ pub enum State {
     Settled,
 }
 
-// A walk that a search holds: its value, its last link, and the place of the label that it extends. A label that extends none names itself.
+// A walk that is held: its value, its last link, and the place of the label that it extends. A label that extends none names itself.
 #[derive(Clone, Copy)]
 pub struct Label<M> {
     pub state: State,

@@ -24,7 +24,7 @@ pub trait Measure: Copy {
     fn admitted(self) -> bool
         ensures { λ r. ⌜ r ≡ kind .admitted self ⌝ };
 
-    // Whether a search may be made under this limit.
+    // Whether a route may be asked for under this limit.
     fn limit_admitted(limit: Self::Limit) -> bool
         ensures { λ r. ⌜ r ≡ kind .limit-admitted limit ⌝ };
 

@@ -27,7 +27,7 @@ pub enum Refusal {
     WorkspaceSize,
     // The reply's start place is past its end, or too few numbers follow it for the legs.
     ReplyTooShort,
-    // A search met one walk more than the site's labels can hold.
+    // Routing met one walk more than the site's labels can hold.
     LabelsFull { site: usize },
     // A feed's byte, at this place, is the kind of no record.
     UnknownKind { place: usize },
@@ -89,7 +89,7 @@ impl Refusal {
     }
 }
 
-// How far a card can be trusted: a standing one is printed, a doubtful one is held back until it is searched again.
+// How far a card can be trusted: a standing one is printed, a doubtful one is held back until its route is found again.
 #[derive(Clone, Copy, PartialEq, Eq, Debug)]
 pub enum Mark {
     Standing,

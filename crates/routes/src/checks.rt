@@ -1,4 +1,4 @@
-//! What the tests share: links, searches and what is checked of their answers.
+//! What the tests share: links, questions and what is checked of their answers.
 use catalogue::Catalogue;
 use catalogue::CatalogueLinks;
 use catalogue::Link;
@@ -14,39 +14,39 @@ use measure::scalar::Sum;
 use report::Refusal;
 use report::RefusalDebug;
 use report::RefusalPartialEq;
-use search::Ask;
-use search::Route;
-use search::search;
+use routing::Ask;
+use routing::Route;
+use routing::find_route;
 use std::test::*;
 
-pub type Two = Pair<Sum, Sum>;
+pub(crate) type Two = Pair<Sum, Sum>;
 
-pub type Three = Pair<Pair<Sum, Sum>, Sum>;
+pub(crate) type Three = Pair<Pair<Sum, Sum>, Sum>;
 
-pub fn two(a: u32, b: u32) -> Two {
+pub(crate) fn two(a: u32, b: u32) -> Two {
     Pair {
         first: Sum::new(a),
         second: Sum::new(b),
     }
 }
 
-pub fn three(a: u32, b: u32, c: u32) -> Three {
+pub(crate) fn three(a: u32, b: u32, c: u32) -> Three {
     Pair {
         first: two(a, b),
         second: Sum::new(c),
     }
 }
 
-pub fn link<M: Measure>(start: u16, end: u16, value: M) -> Link<M> {
+pub(crate) fn link<M: Measure>(start: u16, end: u16, value: M) -> Link<M> {
     Link { start, end, value }
 }
 
-pub fn share(top: u32, bottom: u32) -> Ratio {
+pub(crate) fn share(top: u32, bottom: u32) -> Ratio {
     Ratio { top, bottom }
 }
 
-// A search under two limits of 10.
-pub fn under_tens(source: u16, destination: u16) -> Ask<Pair<u32, u32>> {
+// A question under two limits of 10.
+pub(crate) fn under_tens(source: u16, destination: u16) -> Ask<Pair<u32, u32>> {
     Ask {
         source,
         destination,
@@ -58,7 +58,7 @@ pub fn under_tens(source: u16, destination: u16) -> Ask<Pair<u32, u32>> {
 }
 
 // Stores the links in order, from place 0 on.
-pub fn store_all<M: Measure>(
+pub(crate) fn store_all<M: Measure>(
     catalogue: &mut Catalogue<'_, M>,
     links: &[Link<M>],
 ) -> Result<(), Fail> {
@@ -69,7 +69,7 @@ pub fn store_all<M: Measure>(
 }
 
 // Stores each link in both directions, at the places 2i and 2i + 1.
-pub fn store_both_ways<M: Measure>(
+pub(crate) fn store_both_ways<M: Measure>(
     catalogue: &mut Catalogue<'_, M>,
     links: &[Link<M>],
 ) -> Result<(), Fail> {
@@ -86,7 +86,7 @@ pub fn store_both_ways<M: Measure>(
     Ok(())
 }
 
-// Searches with k labels a site, the first of those lent.
+// Asks with k labels a site, the first of those lent.
 fn answer<M: Measure>(
     network: &Catalogue<'_, M>,
     labels: &mut [Label<M>],
@@ -95,7 +95,7 @@ fn answer<M: Measure>(
     row: &mut [u16],
 ) -> Result<Option<Route<M>>, Refusal> {
     let size = network.sites().saturating_mul(k).min(labels.len());
-    search(network, &mut labels[0..size], k, ask, row)
+    find_route(network, &mut labels[0..size], k, ask, row)
 }
 
 fn check_zeros(numbers: &[u16]) -> Result<(), Fail> {
@@ -123,7 +123,7 @@ fn check_legs<M: Measure + PartialEq<M>>(
 }
 
 // A route of this value and ratio is found.
-pub fn check_route<M: Measure + PartialEq<M>>(
+pub(crate) fn check_route<M: Measure + PartialEq<M>>(
     network: &Catalogue<'_, M>,
     labels: &mut [Label<M>],
     k: usize,
@@ -141,7 +141,7 @@ pub fn check_route<M: Measure + PartialEq<M>>(
 }
 
 // No route is found.
-pub fn check_none<M: Measure>(
+pub(crate) fn check_none<M: Measure>(
     network: &Catalogue<'_, M>,
     labels: &mut [Label<M>],
     k: usize,
@@ -154,7 +154,7 @@ pub fn check_none<M: Measure>(
 }
 
 // The labels of this site are full, and the row is as it was.
-pub fn check_full<M: Measure>(
+pub(crate) fn check_full<M: Measure>(
     network: &Catalogue<'_, M>,
     labels: &mut [Label<M>],
     k: usize,
@@ -167,7 +167,7 @@ pub fn check_full<M: Measure>(
     check_eq(row, [9; 16])
 }
 
-pub fn check_refused<M: Measure>(
+pub(crate) fn check_refused<M: Measure>(
     found: Result<Option<Route<M>>, Refusal>,
     why: Refusal,
 ) -> Result<(), Fail> {
@@ -178,7 +178,7 @@ pub fn check_refused<M: Measure>(
 }
 
 // The route that is found has so many legs.
-pub fn check_legs_number<M: Measure>(
+pub(crate) fn check_legs_number<M: Measure>(
     network: &Catalogue<'_, M>,
     labels: &mut [Label<M>],
     ask: Ask<M::Limit>,

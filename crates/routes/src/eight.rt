@@ -9,8 +9,8 @@ use measure::pair::PairMeasure;
 use measure::pair::PairPartialEq;
 use measure::scalar::SumMeasure;
 use measure::scalar::SumPartialEq;
-use search::Ask;
-use search::free_label;
+use routing::Ask;
+use routing::free_label;
 use std::test::*;
 
 fn links() -> [Link<Three>; 11] {
@@ -43,7 +43,7 @@ fn ask(source: u16, destination: u16, a: u32, b: u32, c: u32) -> Ask<Pair<Pair<u
     }
 }
 
-// A search with three labels a site finds a route of this value.
+// With three labels a site there is a route of this value.
 fn check_found(
     ask: Ask<Pair<Pair<u32, u32>, u32>>,
     value: Three,

@@ -7,7 +7,7 @@ use measure::pair::PairPartialEq;
 use measure::scalar::SumMeasure;
 use measure::scalar::SumPartialEq;
 use report::RefusalDebug;
-use search::free_label;
+use routing::free_label;
 use std::test::*;
 
 // Walks of equal value, on links of no weight, take up one label.

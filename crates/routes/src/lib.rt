@@ -1,4 +1,4 @@
-//! Tests of the search for routes, on networks small enough to be worked out by hand.
+//! Tests of routing, on networks small enough to be worked out by hand.
 #[cfg(test)]
 mod checks;
 #[cfg(test)]

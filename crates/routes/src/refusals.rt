@@ -9,9 +9,9 @@ use measure::scalar::SumMeasure;
 use measure::scalar::SumPartialEq;
 use report::Refusal;
 use report::RefusalDebug;
-use search::Ask;
-use search::free_label;
-use search::search;
+use routing::Ask;
+use routing::free_label;
+use routing::find_route;
 use std::test::*;
 
 fn ask(source: u16, destination: u16, a: u32, b: u32) -> Ask<Pair<u32, u32>> {
@@ -25,7 +25,7 @@ fn ask(source: u16, destination: u16, a: u32, b: u32) -> Ask<Pair<u32, u32>> {
     }
 }
 
-// A search between two sites, with so many labels in all and so many numbers in the row, is refused.
+// A route between two sites, with so many labels in all and so many numbers in the row, is refused.
 fn check_refusal(
     size: usize,
     k: usize,
@@ -40,7 +40,7 @@ fn check_refusal(
     let mut row = [9u16; 4];
     let lent = &mut labels[0..size.min(130)];
     let part = &mut row[0..numbers.min(4)];
-    check_refused(search(&network, lent, k, ask, part), why)?;
+    check_refused(find_route(&network, lent, k, ask, part), why)?;
     check_eq(row, [9u16; 4])
 }
 
@@ -134,7 +134,7 @@ fn a_row_that_just_holds_the_sites() -> Result<(), Fail> {
     let mut row = [9u16; 2];
     let mut network = Catalogue::open(&mut places, 2);
     network.store(1, link(0, 1, two(1, 1)))?;
-    let found = search(&network, &mut labels, 1, ask(0, 1, 2147483647, 1), &mut row)?;
+    let found = find_route(&network, &mut labels, 1, ask(0, 1, 2147483647, 1), &mut row)?;
     check(found.is_some())?;
     check_eq(row, [1, 0])
 }

@@ -8,8 +8,8 @@ use measure::pair::PairMeasure;
 use measure::pair::PairPartialEq;
 use measure::scalar::SumMeasure;
 use measure::scalar::SumPartialEq;
-use search::Ask;
-use search::free_label;
+use routing::Ask;
+use routing::free_label;
 use std::test::*;
 
 // A to F are 0 to 5, but B is 1: the links join A D, D E, A E, E F, E B, F B, A C and C E.
