@@ -10,8 +10,8 @@ use measure::scalar::SumPartialEq;
 use report::Refusal;
 use report::RefusalDebug;
 use routing::Ask;
-use routing::free_label;
 use routing::find_route;
+use routing::free_label;
 use std::test::*;
 
 fn ask(source: u16, destination: u16, a: u32, b: u32) -> Ask<Pair<u32, u32>> {
