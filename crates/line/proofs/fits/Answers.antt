@@ -24,5 +24,5 @@ loop-word-preserved c =
 pub returns : goal.returns
 returns c =
     let e = length-line (decimal c.args.number) (words c.args.reply c.args.legs.now) in
-    let all = ap length (words-all (words c.args.reply c.args.legs.now) c.loop-word.i c.in-default.ensures) in
+    let all = ap length (words-all (words c.args.reply c.args.legs.now) c.loop-word.i c.in_default.ensures) in
     sym (le-leb _ _ (omega arith))

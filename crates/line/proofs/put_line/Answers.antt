@@ -43,13 +43,13 @@ loop-word-preserved c =
 pub put-text-requires : goal.put-text-requires
 put-text-requires c =
     let e = length-line (decimal c.args.number) (words c.args.reply c.args.legs.now) in
-    let all = ap length (words-all (words c.args.reply c.args.legs.now) c.loop-word.i c.in-default.ensures) in
+    let all = ap length (words-all (words c.args.reply c.args.legs.now) c.loop-word.i c.in_default.ensures) in
     omega arith
 
 pub returns : goal.returns
 returns c =
     let e = length-line (decimal c.args.number) (words c.args.reply c.args.legs.now) in
-    let all = words-all (words c.args.reply c.args.legs.now) c.loop-word.i c.in-default.ensures in
+    let all = words-all (words c.args.reply c.args.legs.now) c.loop-word.i c.in_default.ensures in
     let from = c.put-number-at.result in
     let first = c.put-number-at.new.buffer in
     let ws = flat_map after-space (words c.args.reply c.args.legs.now) in

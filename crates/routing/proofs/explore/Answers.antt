@@ -4,8 +4,8 @@ use Rattle.labels.proofs.Finding.{site-room}
 use Rattle.labels.proofs.Turns.{starts-rests}
 use Rattle.routing.proofs.explore.Goals as goal
 
-pub overflow-mul-ends : goal.overflow-mul-ends
-overflow-mul-ends g c = let room = site-room (g.N.Links.span c.args.network.now) c.args.k c.args.ends.from c.requires.source in let e = c.requires.size in search rules
+pub overflow_mul-ends : goal.overflow_mul-ends
+overflow_mul-ends g c = let room = site-room (g.N.Links.span c.args.network.now) c.args.k c.args.ends.from c.requires.source in let e = c.requires.size in search rules
 
 pub prepare-requires : goal.prepare-requires
 prepare-requires g c = let room = site-room (g.N.Links.span c.args.network.now) c.args.k c.args.ends.from c.requires.source in let e = c.requires.size in let s = c.requires.some in omega arith

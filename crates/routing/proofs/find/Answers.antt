@@ -15,7 +15,7 @@ returns-in-At g c =
     let K = g.M.Measure.kind in
     let sound : Sound K (g.N.Links.span c.args.network.now) (g.N.Links.links c.args.network.now) = search rules in
     let wins = c.in-At.ensures in
-    let (legs, row, count, walk, simple) = c.write-legs-legs.ensures in
+    let (legs, row, count, walk, simple) = c.write_legs-legs.ensures in
     let value = c.at-value.ensures in (
       sound,
       legs,

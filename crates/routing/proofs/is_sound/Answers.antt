@@ -7,18 +7,18 @@ use Rattle.routing.specs.Finds.{sound-at}
 use Rattle.routing.proofs.Soundness.{sound-from, sound-refuted}
 use Rattle.routing.proofs.is_sound.Goals as goal
 
-pub returns-then-not-is-sound-at : goal.returns-then-not-is-sound-at
-returns-then-not-is-sound-at g c =
+pub returns-then-not-is_sound_at : goal.returns-then-not-is_sound_at
+returns-then-not-is_sound_at g c =
     let K = g.M.Measure.kind in
     let links = g.N.Links.links c.args.network.now in
     record {
       yes = λ e. absurd (false≢true e);
       no = λ _. sound-refuted K (g.N.Links.span c.args.network.now) links c.loop-i.i
-          (ap (λ (s : ℕ). sound-at K s (at links c.loop-i.i)) (sym c.sites-sites.ensures) ∙ sym c.is-sound-at.ensures ∙ c.if-not-is-sound-at.true);
+          (ap (λ (s : ℕ). sound-at K s (at links c.loop-i.i)) (sym c.sites-sites.ensures) ∙ sym c.is_sound_at.ensures ∙ c.if-not-is_sound_at.true);
     }
 
 pub loop-i-preserved : goal.loop-i-preserved
-loop-i-preserved g c = below_more _ _ c.loop-i.invariant (sym c.is-sound-at.ensures ∙ c.if-not-is-sound-at.false)
+loop-i-preserved g c = below_more _ _ c.loop-i.invariant (sym c.is_sound_at.ensures ∙ c.if-not-is_sound_at.false)
 
 pub returns : goal.returns
 returns g c =

@@ -39,15 +39,15 @@ loop-h-smaller g c =
     let l = c.args.limit in
     let lead = c.in-Some.ensures in
     let low = lead.low in
-    let after = c.in-default-extend.ensures in
+    let after = c.in_default-extend.ensures in
     let e : length c.loop-h.labels ≡ length c.extend.new.labels = omega arith in
     let on : (p : ℕ) → Done (table K c.loop-h.labels) p → Done (table K c.extend.new.labels) p = λ p d. after.1 p ∙ settle-on g.met.M.Measure.lawful l c.requires.admitted _ (links-made _ _ c.requires.sound) c.args.k c.args.ends.from c.args.ends.to (table K c.loop-h.labels) (table K c.settle.new.labels) c.in-Some.h c.settle.ensures lead.waits p d in
     unsettled-less K c.loop-h.labels c.extend.new.labels c.in-Some.h e on low (λ d. not-both _ lead.waits d) (after.1 c.in-Some.h ∙ settle-done g.met.M.Measure.lawful l c.requires.admitted _ (links-made _ _ c.requires.sound) c.args.k c.args.ends.from c.args.ends.to (table K c.loop-h.labels) (table K c.settle.new.labels) c.in-Some.h c.settle.ensures lead.waits)
 
 pub loop-h-preserved : goal.loop-h-preserved
-loop-h-preserved g c = c.in-default-extend.ensures.0
+loop-h-preserved g c = c.in_default-extend.ensures.0
 
 pub returns : goal.returns
 returns g c =
     let m = g.M.Measure in
-    turn-apart g.met.M.Measure.lawful c.args.limit c.requires.admitted (g.N.Links.links c.args.network.now) (links-made _ _ c.requires.sound) c.args.k c.args.ends.from c.args.ends.to (table m.kind c.loop-h.labels) c.loop-h.invariant (none-waits m.kind c.loop-h.labels c.in-default.ensures)
+    turn-apart g.met.M.Measure.lawful c.args.limit c.requires.admitted (g.N.Links.links c.args.network.now) (links-made _ _ c.requires.sound) c.args.k c.args.ends.from c.args.ends.to (table m.kind c.loop-h.labels) c.loop-h.invariant (none-waits m.kind c.loop-h.labels c.in_default.ensures)

@@ -14,8 +14,8 @@ loop-label-init g c =
     let K = g.M.Measure.kind in
     (omega arith, c.at-label.ensures, traced-none K c.args.limit (g.N.Links.links c.args.network.now) c.args.k c.args.from c.args.to (table K c.args.labels.now) c.requires.kept c.args.p _ c.requires.at c.requires.held (drop-length c.args.row.now), refl)
 
-pub overflow-sub-i : goal.overflow-sub-i
-overflow-sub-i g c = traced-some g.M.Measure.kind c.args.limit (g.N.Links.links c.args.network.now) c.args.k c.args.from c.args.to (table g.M.Measure.kind c.args.labels.now) (g.N.Links.span c.args.network.now) c.requires.sound _ c.loop-label.q c.loop-label.row c.loop-label.i c.loop-label.label (omega (arith, c.requires.room)) c.loop-label.invariant.0 c.loop-label.invariant.1 c.loop-label-test.true c.loop-label.invariant.2
+pub overflow_sub-i : goal.overflow_sub-i
+overflow_sub-i g c = traced-some g.M.Measure.kind c.args.limit (g.N.Links.links c.args.network.now) c.args.k c.args.from c.args.to (table g.M.Measure.kind c.args.labels.now) (g.N.Links.span c.args.network.now) c.requires.sound _ c.loop-label.q c.loop-label.row c.loop-label.i c.loop-label.label (omega (arith, c.requires.room)) c.loop-label.invariant.0 c.loop-label.invariant.1 c.loop-label-test.true c.loop-label.invariant.2
 
 pub bounds-row-i : goal.bounds-row-i
 bounds-row-i g c = let some = traced-some g.M.Measure.kind c.args.limit (g.N.Links.links c.args.network.now) c.args.k c.args.from c.args.to (table g.M.Measure.kind c.args.labels.now) (g.N.Links.span c.args.network.now) c.requires.sound _ c.loop-label.q c.loop-label.row c.loop-label.i c.loop-label.label (omega (arith, c.requires.room)) c.loop-label.invariant.0 c.loop-label.invariant.1 c.loop-label-test.true c.loop-label.invariant.2 in let inside = c.loop-label.invariant.0 in omega arith
@@ -23,8 +23,8 @@ bounds-row-i g c = let some = traced-some g.M.Measure.kind c.args.limit (g.N.Lin
 pub loop-label-smaller : goal.loop-label-smaller
 loop-label-smaller g c = let some = traced-some g.M.Measure.kind c.args.limit (g.N.Links.links c.args.network.now) c.args.k c.args.from c.args.to (table g.M.Measure.kind c.args.labels.now) (g.N.Links.span c.args.network.now) c.requires.sound _ c.loop-label.q c.loop-label.row c.loop-label.i c.loop-label.label (omega (arith, c.requires.room)) c.loop-label.invariant.0 c.loop-label.invariant.1 c.loop-label-test.true c.loop-label.invariant.2 in omega arith
 
-pub overflow-cast-row : goal.overflow-cast-row
-overflow-cast-row g c =
+pub overflow_cast-row : goal.overflow_cast-row
+overflow_cast-row g c =
     let room = traced-room g.M.Measure.kind c.args.limit (g.N.Links.links c.args.network.now) c.args.k c.args.from c.args.to (table g.M.Measure.kind c.args.labels.now) (g.N.Links.span c.args.network.now) c.requires.sound _ c.loop-label.q (drop c.loop-label.i c.loop-label.row) c.loop-label.label c.loop-label.invariant.1 c.loop-label-test.true c.loop-label.invariant.2 in
     let low = room.1 in
     let few = c.requires.sound.places-few in

@@ -12,7 +12,7 @@ returns g c =
     let zeros : c.fill.new.self ≡ replicate n 0 = c.fill.ensures.after (λ y e. e) in
     let long : length (drop start traced) ≡ n - start = length-drop start traced ∙ omega arith in (
       drop start traced,
-      c.rotate-left.ensures.after
+      c.rotate_left.ensures.after
           ∙ ap (λ xs. drop start traced ++ xs) (c.trace-start.ensures.before ∙ ap (take start) zeros ∙ take-replicate start n 0 low ∙ ap (λ (m : ℕ). replicate m 0) (omega (arith, long))),
       sym (long ∙ omega arith),
       c.trace-start.ensures.walk,

@@ -19,10 +19,10 @@ returns g c =
     let long : length row ≡ width = simp (length-take, length-drop) (omega arith) in
     let free : topmost (route-causes K sites (length c.args.labels.now) c.args.k c.args.ask (length row)) ≡ None =
     ap (λ (n : ℕ). topmost (route-causes K sites (length c.args.labels.now) c.args.k c.args.ask n)) long ∙ c.requires.free in
-    let found = searched-free K sites links c.args.k c.args.ask c.args.labels.now row c.find-route.new.labels c.find-route.new.row c.find-route.result free c.find-route.ensures in
-    let long' : length c.find-route.new.row ≡ width = omega arith in
+    let found = searched-free K sites links c.args.k c.args.ask c.args.labels.now row c.find_route.new.labels c.find_route.new.row c.find_route.result free c.find_route.ensures in
+    let long' : length c.find_route.new.row ≡ width = omega arith in
     record {
       labels = found.0;
-      answer = row-answered K (network-with sites links) c.args.k c.args.ask rows row c.find-route.new.row _ start width c.requires.inside (ap (λ (n : ℕ). take n (drop start rows)) (omega arith)) long long'
-          (put_mid-paste start (start + width - start) rows c.find-route.new.row c.find-route.new.row width refl (omega arith) (sym long')) c.find-route.result found.1;
+      answer = row-answered K (network-with sites links) c.args.k c.args.ask rows row c.find_route.new.row _ start width c.requires.inside (ap (λ (n : ℕ). take n (drop start rows)) (omega arith)) long long'
+          (put_mid-paste start (start + width - start) rows c.find_route.new.row c.find_route.new.row width refl (omega arith) (sym long')) c.find_route.result found.1;
     }

@@ -9,41 +9,41 @@ use Rattle.book.proofs.Answering.{moved, rechecked-so, recheck-why, rechecks}
 use Rattle.book.proofs.Refusing.{exits, first-refused}
 use Rattle.book.proofs.answers.recheck_card.Goals as goal
 
-pub returns-in-err-check-sites : goal.returns-in-err-check-sites
-returns-in-err-check-sites g c =
+pub returns-in_err-check_sites : goal.returns-in_err-check_sites
+returns-in_err-check_sites g c =
     let K = g.M.Measure.kind in
     let n = network-of c.args.catalogue.now in
     let b = book-of c.args.book.now in
-    let why = c.in-err-check-sites.field-0.0 in
+    let why = c.in_err-check_sites.field-0.0 in
     record {
       outcome = moved (Rechecked K n b c.args.labels.now c.args.card c.args.k) (exits (err_from_is_err_and c.from-residual.result c.from-residual.ensures.1)) refl
-          (recheck-refused why (first-refused (differ n b) (drop 1 (recheck-causes K n b (length c.args.labels.now) c.args.card c.args.k)) why c.in-err-check-sites.ensures));
+          (recheck-refused why (first-refused (differ n b) (drop 1 (recheck-causes K n b (length c.args.labels.now) c.args.card c.args.k)) why c.in_err-check_sites.ensures));
       places = (refl, refl);
     }
 
-pub returns-in-err-ask : goal.returns-in-err-ask
-returns-in-err-ask g c =
+pub returns-in_err-ask : goal.returns-in_err-ask
+returns-in_err-ask g c =
     let K = g.M.Measure.kind in
     let n = network-of c.args.catalogue.now in
     let b = book-of c.args.book.now in
-    let why = c.in-err-ask.field-0.0 in
+    let why = c.in_err-ask.field-0.0 in
     record {
-      outcome = moved (Rechecked K n b c.args.labels.now c.args.card c.args.k) (exits (err_from_is_err_and c.from-residual-in-err-ask.result c.from-residual-in-err-ask.ensures.1)) refl
-          (recheck-refused why (recheck-why K n b c.args.card (length c.args.labels.now) c.args.k c.in-ok-check-sites.ensures why c.in-err-ask.ensures));
+      outcome = moved (Rechecked K n b c.args.labels.now c.args.card c.args.k) (exits (err_from_is_err_and c.from-residual-in_err-ask.result c.from-residual-in_err-ask.ensures.1)) refl
+          (recheck-refused why (recheck-why K n b c.args.card (length c.args.labels.now) c.args.k c.in_ok-check_sites.ensures why c.in_err-ask.ensures));
       places = (refl, refl);
     }
 
-pub answer-card-requires : goal.answer-card-requires
-answer-card-requires g c =
+pub answer_card-requires : goal.answer_card-requires
+answer_card-requires g c =
     let known = rechecks g.M.Measure.kind (network-of c.args.catalogue.now) (book-of c.args.book.now) c.args.card (length c.args.labels.now) c.args.k
-    c.in-ok-check-sites.ensures c.in-ok-ask.field-0 c.in-ok-ask.ensures in
+    c.in_ok-check_sites.ensures c.in_ok-ask.field-0 c.in_ok-ask.ensures in
     record { inside = known.inside; free = known.free }
 
 pub returns-in-Standing : goal.returns-in-Standing
 returns-in-Standing g c =
-    let it = c.in-ok-ask.field-0 in
+    let it = c.in_ok-ask.field-0 in
     let known = rechecks g.M.Measure.kind (network-of c.args.catalogue.now) (book-of c.args.book.now) c.args.card (length c.args.labels.now) c.args.k
-    c.in-ok-check-sites.ensures it c.in-ok-ask.ensures in
+    c.in_ok-check_sites.ensures it c.in_ok-ask.ensures in
     record { outcome = still-standing it known.unrefused known.here c.in-Standing.is; places = (refl, refl) }
 
 pub returns-in-Doubtful : goal.returns-in-Doubtful
@@ -51,11 +51,11 @@ returns-in-Doubtful g c =
     let K = g.M.Measure.kind in
     let n = network-of c.args.catalogue.now in
     let b = book-of c.args.book.now in
-    let it = c.in-ok-ask.field-0 in
-    let known = rechecks K n b c.args.card (length c.args.labels.now) c.args.k c.in-ok-check-sites.ensures it c.in-ok-ask.ensures in
-    let mark = c.next-mark.ensures ∙ ap (λ m. next m Answered) c.in-Doubtful.is in
+    let it = c.in_ok-ask.field-0 in
+    let known = rechecks K n b c.args.card (length c.args.labels.now) c.args.k c.in_ok-check_sites.ensures it c.in_ok-ask.ensures in
+    let mark = c.next_mark.ensures ∙ ap (λ m. next m Answered) c.in-Doubtful.is in
     record {
-      outcome = rechecked-so it c.answer-card.result known.unrefused known.here c.in-Doubtful.is c.answer-card.ensures.labels
-          (subst (λ m. Card-answer K n c.args.k it.ask m b c.args.card c.answer-card.result (book-of c.answer-card.new.book)) mark c.answer-card.ensures.answer);
-      places = c.answer-card.ensures.places;
+      outcome = rechecked-so it c.answer_card.result known.unrefused known.here c.in-Doubtful.is c.answer_card.ensures.labels
+          (subst (λ m. Card-answer K n c.args.k it.ask m b c.args.card c.answer_card.result (book-of c.answer_card.new.book)) mark c.answer_card.ensures.answer);
+      places = c.answer_card.ensures.places;
     }

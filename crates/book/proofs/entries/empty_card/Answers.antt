@@ -13,26 +13,26 @@ use Rattle.book.proofs.Booked.{refiled}
 use Rattle.book.proofs.Refusing.{exits, filled-refused, filled-passed, card-some, card-inside}
 use Rattle.book.proofs.entries.empty_card.Goals as goal
 
-pub returns-in-err-filled : goal.returns-in-err-filled
-returns-in-err-filled g c =
+pub returns-in_err-filled : goal.returns-in_err-filled
+returns-in_err-filled g c =
     let b = book-of c.args.book.now in
     let card = c.args.card in
-    let why = c.in-err-filled.field-0.0 in
+    let why = c.in_err-filled.field-0.0 in
     record {
       outcome = subst (λ (r : Result (Unit {0}) Refusal). Discarded b card r b) (sym (exits (err_from_is_err_and c.from-residual.result c.from-residual.ensures.1)))
-          (discard-refused why (filled-refused (topmost (discard-causes b card)) CardEmpty (at b.cards card) why (card-some b card) c.in-err-filled.ensures));
+          (discard-refused why (filled-refused (topmost (discard-causes b card)) CardEmpty (at b.cards card) why (card-some b card) c.in_err-filled.ensures));
       places = (refl, refl);
     }
 
-pub row-start-start-requires : goal.row-start-start-requires
-row-start-start-requires g c =
+pub row_start-start-requires : goal.row_start-start-requires
+row_start-start-requires g c =
     let b = book-of c.args.book.now in
-    card-inside b c.args.card (filled-passed (topmost (discard-causes b c.args.card)) CardEmpty (at b.cards c.args.card) c.in-ok-filled.field-0 c.in-ok-filled.ensures).0
+    card-inside b c.args.card (filled-passed (topmost (discard-causes b c.args.card)) CardEmpty (at b.cards c.args.card) c.in_ok-filled.field-0 c.in_ok-filled.ensures).0
 
-pub write-place-requires : goal.write-place-requires
-write-place-requires g c =
+pub write_place-requires : goal.write_place-requires
+write_place-requires g c =
     let b = book-of c.args.book.now in
-    card-inside b c.args.card (filled-passed (topmost (discard-causes b c.args.card)) CardEmpty (at b.cards c.args.card) c.in-ok-filled.field-0 c.in-ok-filled.ensures).0
+    card-inside b c.args.card (filled-passed (topmost (discard-causes b c.args.card)) CardEmpty (at b.cards c.args.card) c.in_ok-filled.field-0 c.in_ok-filled.ensures).0
 
 pub returns : goal.returns
 returns g c =
@@ -40,12 +40,12 @@ returns g c =
     let b = book-of q in
     let card = c.args.card in
     let w = b.width in
-    let free = (filled-passed (topmost (discard-causes b card)) CardEmpty (at b.cards card) c.in-ok-filled.field-0 c.in-ok-filled.ensures).0 in
-    let start = c.row-start-start.ensures in
+    let free = (filled-passed (topmost (discard-causes b card)) CardEmpty (at b.cards card) c.in_ok-filled.field-0 c.in_ok-filled.ensures).0 in
+    let start = c.row_start-start.ensures in
     let inside : card * w + w ≤ length b.rows = subst (λ (s : ℕ). s + w ≤ length b.rows) start.value start.fits in
-    let rows = c.clear-row.ensures ∙ ap (λ (s : ℕ). paste b.rows s (row_of [] c.width-width.result) c.width-width.result) start.value
+    let rows = c.clear_row.ensures ∙ ap (λ (s : ℕ). paste b.rows s (row_of [] c.width-width.result) c.width-width.result) start.value
     ∙ ap (λ (n : ℕ). paste b.rows (card * w) (row_of [] n) n) c.width-width.ensures.value in
     record {
-      outcome = subst (λ (b' : Book g.row.M.Denot g.row.L.Denot). Discarded b card (Ok tt) b') (sym (refiled q q.sites card None [] inside (omega arith) refl c.write-place.ensures rows)) (discarded free);
+      outcome = subst (λ (b' : Book g.row.M.Denot g.row.L.Denot). Discarded b card (Ok tt) b') (sym (refiled q q.sites card None [] inside (omega arith) refl c.write_place.ensures rows)) (discarded free);
       places = (refl, refl);
     }

@@ -14,9 +14,9 @@ returns g c =
     let place = c.args.place in
     record {
       cards = ap (set b.cards place) (
-          c.after-news-after.ensures.card ∙ ap (λ (s : Bool). lapsed (either s) c.card-was.result) c.is-struck-struck.ensures
+          c.after_news-after.ensures.card ∙ ap (λ (s : Bool). lapsed (either s) c.card-was.result) c.is_struck-struck.ensures
           ∙ ap (λ (o : Option (Card g.row.M.Denot g.row.M-Limit.Denot)). lapsed (either (struck-at rule b place)) o) c.card-was.ensures ∙ lapsed-so rule b place (at b.cards place));
-      fell = c.after-news-after.ensures.fell ∙ ap (λ (s : Bool). fell (either s) c.card-was.result) c.is-struck-struck.ensures
+      fell = c.after_news-after.ensures.fell ∙ ap (λ (s : Bool). fell (either s) c.card-was.result) c.is_struck-struck.ensures
           ∙ ap (λ (o : Option (Card g.row.M.Denot g.row.M-Limit.Denot)). fell (either (struck-at rule b place)) o) c.card-was.ensures ∙ fell-so rule b place (at b.cards place);
       rows = search rules;
       sites = search rules;

@@ -8,10 +8,10 @@ use Rattle.doubt.proofs.Spreading.{Partly, partly_more, partly-all, partly-count
 use Rattle.book.specs.Stores.{book-of}
 use Rattle.book.proofs.Booked.{same-book}
 use Rattle.book.proofs.marking.spread.Goals as goal
-use Rattle.book.proofs.marking.spread.Goals.{then-mark-card, else-mark-card}
+use Rattle.book.proofs.marking.spread.Goals.{then-mark_card, else-mark_card}
 
-pub overflow-add-count : goal.overflow-add-count
-overflow-add-count g c =
+pub overflow_add-count : goal.overflow_add-count
+overflow_add-count g c =
     let below : c.loop-place.count ≤ c.loop-place.place =
     partly-count (rule-of g.M.Measure.kind c.args.news) (book-of c.args.book.now) c.loop-place.book.cards.now c.loop-place.place c.loop-place.count c.loop-place.invariant.0 in
     omega arith
@@ -25,21 +25,21 @@ loop-place-preserved g c =
     let inv = c.loop-place.invariant in
     let now-is : book-of c.loop-place.book ≡ with-cards b cards = same-book c.args.book.now c.loop-place.book.sites inv.2 inv.0.places inv.1 in
     let lt : place < length cards = omega (arith, inv.0.places) in
-    let after = c.mark-card.ensures.cards
+    let after = c.mark_card.ensures.cards
     ∙ ap (λ (x : Book g.row.M.Denot g.row.M-Limit.Denot). set cards place (lapsed (strikes rule x place) (at cards place))) now-is in
-    let fallen = c.mark-card.ensures.fell ∙ ap (λ (x : Book g.row.M.Denot g.row.M-Limit.Denot). fell (strikes rule x place) (at cards place)) now-is in (
-      subst (λ (xs : List (Option (Card g.row.M.Denot g.row.M-Limit.Denot))). Partly rule b xs (place + 1) c.if-mark-card.count) (sym after)
-          (partly_more rule b cards place c.loop-place.count c.mark-card.result c.if-mark-card.count lt fallen more inv.0),
-      c.mark-card.ensures.rows ∙ inv.1,
-      c.mark-card.ensures.sites ∙ inv.2,
-      c.mark-card.ensures.same-cards ∙ inv.3,
-      c.mark-card.ensures.same_rows ∙ inv.4,
+    let fallen = c.mark_card.ensures.fell ∙ ap (λ (x : Book g.row.M.Denot g.row.M-Limit.Denot). fell (strikes rule x place) (at cards place)) now-is in (
+      subst (λ (xs : List (Option (Card g.row.M.Denot g.row.M-Limit.Denot))). Partly rule b xs (place + 1) c.if-mark_card.count) (sym after)
+          (partly_more rule b cards place c.loop-place.count c.mark_card.result c.if-mark_card.count lt fallen more inv.0),
+      c.mark_card.ensures.rows ∙ inv.1,
+      c.mark_card.ensures.sites ∙ inv.2,
+      c.mark_card.ensures.same_cards ∙ inv.3,
+      c.mark_card.ensures.same_rows ∙ inv.4,
     )
   where
-    more : c.if-mark-card.count ≡ c.loop-place.count + cond c.mark-card.result 1 0
-    more = elim c.if-mark-card.branch [
-      | then-mark-card w ↦ w.count-is ∙ ap (λ b. c.loop-place.count + cond b 1 0) (sym w.if-mark-card.true)
-      | else-mark-card w ↦ w.count-is ∙ sym (ap (λ b. c.loop-place.count + cond b 1 0) w.if-mark-card.false ∙ omega arith)
+    more : c.if-mark_card.count ≡ c.loop-place.count + cond c.mark_card.result 1 0
+    more = elim c.if-mark_card.branch [
+      | then-mark_card w ↦ w.count-is ∙ ap (λ b. c.loop-place.count + cond b 1 0) (sym w.if-mark_card.true)
+      | else-mark_card w ↦ w.count-is ∙ sym (ap (λ b. c.loop-place.count + cond b 1 0) w.if-mark_card.false ∙ omega arith)
     ]
 
 pub returns : goal.returns

@@ -3,8 +3,8 @@ use Rattle.catalogue.specs.Walks.{Holds}
 use Rattle.catalogue.proofs.Walking.{Onward, onward-more, onward_stops, onward-all}
 use Rattle.catalogue.proofs.walks.follow.Goals as goal
 
-pub returns-in-default : goal.returns-in-default
-returns-in-default g c = onward_stops g.M.Measure.kind _ _ c.loop-leg.site _ c.loop-leg.value _ c.loop-leg.leg-index (omega arith) (λ u v h. c.in-default.not-Some _ (c.link.ensures ∙ h)) c.loop-leg.invariant
+pub returns-in_default : goal.returns-in_default
+returns-in_default g c = onward_stops g.M.Measure.kind _ _ c.loop-leg.site _ c.loop-leg.value _ c.loop-leg.leg-index (omega arith) (λ u v h. c.in_default.not-Some _ (c.link.ensures ∙ h)) c.loop-leg.invariant
 
 pub returns-then-link-site : goal.returns-then-link-site
 returns-then-link-site g c =

@@ -13,32 +13,32 @@ use Rattle.quotes.proofs.Outcomes.{moved}
 use Rattle.book.proofs.Refusing.{exits, first-refused, first-passed, filled-refused, filled-passed, replace-some}
 use Rattle.quotes.proofs.changes.change_value.Goals as goal
 
-pub returns-in-err-check-sites : goal.returns-in-err-check-sites
-returns-in-err-check-sites g c =
+pub returns-in_err-check_sites : goal.returns-in_err-check_sites
+returns-in_err-check_sites g c =
     let K = g.M.Measure.kind in
     let n = network-of c.args.catalogue.now in
     let b = book-of c.args.book.now in
-    let why = c.in-err-check-sites.field-0.0 in
+    let why = c.in_err-check_sites.field-0.0 in
     let is = exits (err_from_is_err_and c.from-residual.result c.from-residual.ensures.1) in
     record {
-      outcome = moved (Changed K n b c.args.place c.args.value) is refl refl (change-refused why (first-refused (differ n b) (replace-causes K n.links c.args.place c.args.value) why c.in-err-check-sites.ensures));
+      outcome = moved (Changed K n b c.args.place c.args.value) is refl refl (change-refused why (first-refused (differ n b) (replace-causes K n.links c.args.place c.args.value) why c.in_err-check_sites.ensures));
       links = refl;
       places = (refl, refl);
     }
 
-pub returns-in-err-old : goal.returns-in-err-old
-returns-in-err-old g c =
+pub returns-in_err-old : goal.returns-in_err-old
+returns-in_err-old g c =
     let K = g.M.Measure.kind in
     let n = network-of c.args.catalogue.now in
     let b = book-of c.args.book.now in
     let cs = replace-causes K n.links c.args.place c.args.value in
-    let why = c.in-err-old.field-0.0 in
-    let is = exits (err_from_is_err_and c.from-residual-in-err-old.result c.from-residual-in-err-old.ensures.1) in
-    let told = c.in-err-old.ensures in
+    let why = c.in_err-old.field-0.0 in
+    let is = exits (err_from_is_err_and c.from-residual-in_err-old.result c.from-residual-in_err-old.ensures.1) in
+    let told = c.in_err-old.ensures in
     let links = told.links ∙ ap (λ (r : Result (Link g.row.M.Denot) Refusal). elim r as (λ _. List (Option (Link g.row.M.Denot))) [ Ok old ↦ set n.links c.args.place (Some (revalued old c.args.value)) | Err _ ↦ n.links ]) (sym told.answer) in
     record {
       outcome = moved (Changed K n b c.args.place c.args.value) is (same-network c.args.catalogue.now c.replace.new.self told.sites links) refl
-          (change-refused why (first-passed (differ n b) cs c.in-ok-check-sites.ensures ∙ filled-refused (topmost cs) LinkEmpty (at n.links c.args.place) why (λ e. replace-some K n.links c.args.place c.args.value e) told.answer));
+          (change-refused why (first-passed (differ n b) cs c.in_ok-check_sites.ensures ∙ filled-refused (topmost cs) LinkEmpty (at n.links c.args.place) why (λ e. replace-some K n.links c.args.place c.args.value e) told.answer));
       links = told.same;
       places = (refl, refl);
     }
@@ -49,12 +49,12 @@ returns g c =
     let n = network-of c.args.catalogue.now in
     let b = book-of c.args.book.now in
     let cs = replace-causes K n.links c.args.place c.args.value in
-    let told = c.in-ok-old.ensures in
+    let told = c.in_ok-old.ensures in
     let links = told.links ∙ ap (λ (r : Result (Link g.row.M.Denot) Refusal). elim r as (λ _. List (Option (Link g.row.M.Denot))) [ Ok old ↦ set n.links c.args.place (Some (revalued old c.args.value)) | Err _ ↦ n.links ]) (sym told.answer) in
-    let passed = filled-passed (topmost cs) LinkEmpty (at n.links c.args.place) c.in-ok-old.old told.answer in
+    let passed = filled-passed (topmost cs) LinkEmpty (at n.links c.args.place) c.in_ok-old.old told.answer in
     record {
       outcome = moved (Changed K n b c.args.place c.args.value) refl (same-network c.args.catalogue.now c.replace.new.self told.sites links) c.spread.ensures.book
-          (changed c.in-ok-old.old c.spread.result c.spread.new.book.cards.now (first-passed (differ n b) cs c.in-ok-check-sites.ensures ∙ passed.0) passed.1 c.spread.ensures.doubted);
+          (changed c.in_ok-old.old c.spread.result c.spread.new.book.cards.now (first-passed (differ n b) cs c.in_ok-check_sites.ensures ∙ passed.0) passed.1 c.spread.ensures.doubted);
       links = told.same;
       places = (c.spread.ensures.same-cards, c.spread.ensures.same_rows);
     }

@@ -12,32 +12,32 @@ use Rattle.quotes.proofs.Outcomes.{moved}
 use Rattle.book.proofs.Refusing.{exits, first-refused, first-passed, unless-tells}
 use Rattle.quotes.proofs.changes.offer_link.Goals as goal
 
-pub returns-in-err-check-sites : goal.returns-in-err-check-sites
-returns-in-err-check-sites g c =
+pub returns-in_err-check_sites : goal.returns-in_err-check_sites
+returns-in_err-check_sites g c =
     let K = g.M.Measure.kind in
     let n = network-of c.args.catalogue.now in
     let b = book-of c.args.book.now in
-    let why = c.in-err-check-sites.field-0.0 in
+    let why = c.in_err-check_sites.field-0.0 in
     let is = exits (err_from_is_err_and c.from-residual.result c.from-residual.ensures.1) in
     record {
-      outcome = moved (Offered K n b c.args.place c.args.link) is refl refl (offer-refused why (first-refused (differ n b) (store-causes K n.sites n.links c.args.place c.args.link) why c.in-err-check-sites.ensures));
+      outcome = moved (Offered K n b c.args.place c.args.link) is refl refl (offer-refused why (first-refused (differ n b) (store-causes K n.sites n.links c.args.place c.args.link) why c.in_err-check_sites.ensures));
       links = refl;
       places = (refl, refl);
     }
 
-pub returns-in-err-store : goal.returns-in-err-store
-returns-in-err-store g c =
+pub returns-in_err-store : goal.returns-in_err-store
+returns-in_err-store g c =
     let K = g.M.Measure.kind in
     let n = network-of c.args.catalogue.now in
     let b = book-of c.args.book.now in
     let cs = store-causes K n.sites n.links c.args.place c.args.link in
-    let why = c.in-err-store.field-0.0 in
-    let is = exits (err_from_is_err_and c.from-residual-in-err-store.result c.from-residual-in-err-store.ensures.1) in
-    let told = c.in-err-store.ensures in
+    let why = c.in_err-store.field-0.0 in
+    let is = exits (err_from_is_err_and c.from-residual-in_err-store.result c.from-residual-in_err-store.ensures.1) in
+    let told = c.in_err-store.ensures in
     let links = told.links ∙ ap (λ (r : Result (Unit {0}) Refusal). elim r as (λ _. List (Option (Link g.row.M.Denot))) [ Ok _ ↦ set n.links c.args.place (Some c.args.link) | Err _ ↦ n.links ]) (sym told.answer) in
     record {
       outcome = moved (Offered K n b c.args.place c.args.link) is (same-network c.args.catalogue.now c.store.new.self told.sites links) refl
-          (offer-refused why (first-passed (differ n b) cs c.in-ok-check-sites.ensures ∙ unless-tells (topmost cs) (Err why) told.answer));
+          (offer-refused why (first-passed (differ n b) cs c.in_ok-check_sites.ensures ∙ unless-tells (topmost cs) (Err why) told.answer));
       links = told.same;
       places = (refl, refl);
     }
@@ -48,12 +48,12 @@ returns g c =
     let n = network-of c.args.catalogue.now in
     let b = book-of c.args.book.now in
     let cs = store-causes K n.sites n.links c.args.place c.args.link in
-    let told = c.in-ok-store.ensures in
+    let told = c.in_ok-store.ensures in
     let links = told.links ∙ ap (λ (r : Result (Unit {0}) Refusal). elim r as (λ _. List (Option (Link g.row.M.Denot))) [ Ok _ ↦ set n.links c.args.place (Some c.args.link) | Err _ ↦ n.links ]) (sym told.answer) in
     let passed = unless-tells (topmost cs) (Ok tt) told.answer in
     record {
       outcome = moved (Offered K n b c.args.place c.args.link) refl (same-network c.args.catalogue.now c.store.new.self told.sites links) c.spread.ensures.book
-          (offered c.spread.result c.spread.new.book.cards.now (first-passed (differ n b) cs c.in-ok-check-sites.ensures ∙ passed) c.spread.ensures.doubted);
+          (offered c.spread.result c.spread.new.book.cards.now (first-passed (differ n b) cs c.in_ok-check_sites.ensures ∙ passed) c.spread.ensures.doubted);
       links = told.same;
       places = (c.spread.ensures.same-cards, c.spread.ensures.same_rows);
     }

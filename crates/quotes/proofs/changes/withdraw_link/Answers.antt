@@ -13,32 +13,32 @@ use Rattle.quotes.proofs.Outcomes.{moved}
 use Rattle.book.proofs.Refusing.{exits, first-refused, first-passed, filled-refused, filled-passed, remove-some}
 use Rattle.quotes.proofs.changes.withdraw_link.Goals as goal
 
-pub returns-in-err-check-sites : goal.returns-in-err-check-sites
-returns-in-err-check-sites g c =
+pub returns-in_err-check_sites : goal.returns-in_err-check_sites
+returns-in_err-check_sites g c =
     let K = g.M.Measure.kind in
     let n = network-of c.args.catalogue.now in
     let b = book-of c.args.book.now in
-    let why = c.in-err-check-sites.field-0.0 in
+    let why = c.in_err-check_sites.field-0.0 in
     let is = exits (err_from_is_err_and c.from-residual.result c.from-residual.ensures.1) in
     record {
-      outcome = moved (Withdrawn K n b c.args.place) is refl refl (withdraw-refused why (first-refused (differ n b) (remove-causes n.links c.args.place) why c.in-err-check-sites.ensures));
+      outcome = moved (Withdrawn K n b c.args.place) is refl refl (withdraw-refused why (first-refused (differ n b) (remove-causes n.links c.args.place) why c.in_err-check_sites.ensures));
       links = refl;
       places = (refl, refl);
     }
 
-pub returns-in-err-remove : goal.returns-in-err-remove
-returns-in-err-remove g c =
+pub returns-in_err-remove : goal.returns-in_err-remove
+returns-in_err-remove g c =
     let K = g.M.Measure.kind in
     let n = network-of c.args.catalogue.now in
     let b = book-of c.args.book.now in
     let cs = remove-causes n.links c.args.place in
-    let why = c.in-err-remove.field-0.0 in
-    let is = exits (err_from_is_err_and c.from-residual-in-err-remove.result c.from-residual-in-err-remove.ensures.1) in
-    let told = c.in-err-remove.ensures in
+    let why = c.in_err-remove.field-0.0 in
+    let is = exits (err_from_is_err_and c.from-residual-in_err-remove.result c.from-residual-in_err-remove.ensures.1) in
+    let told = c.in_err-remove.ensures in
     let links = told.links ∙ ap (λ (r : Result (Link g.row.M.Denot) Refusal). elim r as (λ _. List (Option (Link g.row.M.Denot))) [ Ok _ ↦ set n.links c.args.place None | Err _ ↦ n.links ]) (sym told.answer) in
     record {
       outcome = moved (Withdrawn K n b c.args.place) is (same-network c.args.catalogue.now c.remove.new.self told.sites links) refl
-          (withdraw-refused why (first-passed (differ n b) cs c.in-ok-check-sites.ensures ∙ filled-refused (topmost cs) LinkEmpty (at n.links c.args.place) why (λ e. remove-some n.links c.args.place e) told.answer));
+          (withdraw-refused why (first-passed (differ n b) cs c.in_ok-check_sites.ensures ∙ filled-refused (topmost cs) LinkEmpty (at n.links c.args.place) why (λ e. remove-some n.links c.args.place e) told.answer));
       links = told.same;
       places = (refl, refl);
     }
@@ -49,12 +49,12 @@ returns g c =
     let n = network-of c.args.catalogue.now in
     let b = book-of c.args.book.now in
     let cs = remove-causes n.links c.args.place in
-    let told = c.in-ok-remove.ensures in
+    let told = c.in_ok-remove.ensures in
     let links = told.links ∙ ap (λ (r : Result (Link g.row.M.Denot) Refusal). elim r as (λ _. List (Option (Link g.row.M.Denot))) [ Ok _ ↦ set n.links c.args.place None | Err _ ↦ n.links ]) (sym told.answer) in
-    let passed = filled-passed (topmost cs) LinkEmpty (at n.links c.args.place) c.in-ok-remove.field-0 told.answer in
+    let passed = filled-passed (topmost cs) LinkEmpty (at n.links c.args.place) c.in_ok-remove.field-0 told.answer in
     record {
       outcome = moved (Withdrawn K n b c.args.place) refl (same-network c.args.catalogue.now c.remove.new.self told.sites links) c.spread.ensures.book
-          (withdrawn c.spread.result c.spread.new.book.cards.now (first-passed (differ n b) cs c.in-ok-check-sites.ensures ∙ passed.0) c.spread.ensures.doubted);
+          (withdrawn c.spread.result c.spread.new.book.cards.now (first-passed (differ n b) cs c.in_ok-check_sites.ensures ∙ passed.0) c.spread.ensures.doubted);
       links = told.same;
       places = (c.spread.ensures.same-cards, c.spread.ensures.same_rows);
     }

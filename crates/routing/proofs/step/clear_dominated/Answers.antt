@@ -8,4 +8,4 @@ pub loop-i-preserved : goal.loop-i-preserved
 loop-i-preserved g c =
     let K = g.M.Measure.kind in
     let lt : c.loop-i.i < length c.loop-i.labels = omega arith in
-    clears-more K (table K c.args.labels.now) c.loop-i.labels c.args.value c.args.start c.loop-i.i c.clear-label.result (omega arith) lt (c.clear-label.ensures ∙ ap (cleared K c.args.value) c.at-label.ensures) c.loop-i.invariant
+    clears-more K (table K c.args.labels.now) c.loop-i.labels c.args.value c.args.start c.loop-i.i c.clear_label.result (omega arith) lt (c.clear_label.ensures ∙ ap (cleared K c.args.value) c.at-label.ensures) c.loop-i.invariant

@@ -3,8 +3,8 @@ use Rattle.labels.specs.Labels.{table}
 use Rattle.labels.proofs.Finding.{opens-next, opens-rests, holds-inside}
 use Rattle.routing.proofs.step.extend.Goals as goal
 
-pub extend-by-requires : goal.extend-by-requires
-extend-by-requires g c =
+pub extend_by-requires : goal.extend_by-requires
+extend_by-requires g c =
     record {
       admitted = c.requires.admitted;
       sound = c.requires.sound;
@@ -13,8 +13,8 @@ extend-by-requires g c =
       opens = opens-next c.args.limit (g.N.Links.links c.args.network.now) c.args.k c.args.ends.from c.args.ends.to (table g.M.Measure.kind c.loop-i.labels) c.args.h c.args.site c.loop-i.from c.loop-i.invariant.0 c.in-Some.i c.in-Some.ensures;
     }
 
-pub overflow-add-from : goal.overflow-add-from
-overflow-add-from g c =
+pub overflow_add-from : goal.overflow_add-from
+overflow_add-from g c =
     let next = c.in-Some.ensures in
     let inside = holds-inside (g.N.Links.links c.args.network.now) c.in-Some.i c.args.site next.holds.0 next.holds.1 next.holds.2 in
     let few = c.requires.sound.places-few in
@@ -28,8 +28,8 @@ loop-i-smaller g c =
     omega arith
 
 pub loop-i-preserved : goal.loop-i-preserved
-loop-i-preserved g c = let r = c.in-default-extend-by.ensures in (r.0, λ p. r.1 p ∙ c.loop-i.invariant.1 p)
+loop-i-preserved g c = let r = c.in_default-extend_by.ensures in (r.0, λ p. r.1 p ∙ c.loop-i.invariant.1 p)
 
 pub returns : goal.returns
 returns g c =
-    (opens-rests c.args.limit (g.N.Links.links c.args.network.now) c.args.k c.args.ends.from c.args.ends.to (table g.M.Measure.kind c.loop-i.labels) c.args.h c.args.site c.loop-i.from c.loop-i.invariant.0 c.in-default.ensures, c.loop-i.invariant.1)
+    (opens-rests c.args.limit (g.N.Links.links c.args.network.now) c.args.k c.args.ends.from c.args.ends.to (table g.M.Measure.kind c.loop-i.labels) c.args.h c.args.site c.loop-i.from c.loop-i.invariant.0 c.in_default.ensures, c.loop-i.invariant.1)

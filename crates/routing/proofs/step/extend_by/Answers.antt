@@ -6,25 +6,25 @@ use Rattle.labels.proofs.Turns.{turn-none, turn-dominated, turn-full, turn-adds,
 use Rattle.labels.proofs.Finding.{links-made, site-room}
 use Rattle.routing.proofs.step.extend_by.Goals as goal
 
-pub returns-in-default : goal.returns-in-default
-returns-in-default g c =
+pub returns-in_default : goal.returns-in_default
+returns-in_default g c =
     let m = g.M.Measure in
-    (turn-none g.met.M.Measure.lawful c.args.limit c.requires.admitted (g.N.Links.links c.args.network.now) (links-made _ _ c.requires.sound) c.args.k c.args.ends.from c.args.ends.to (table m.kind c.args.labels.now) c.args.h c.args.site c.args.i c.requires.opens c.in-default.ensures, λ p. refl)
+    (turn-none g.met.M.Measure.lawful c.args.limit c.requires.admitted (g.N.Links.links c.args.network.now) (links-made _ _ c.requires.sound) c.args.k c.args.ends.from c.args.ends.to (table m.kind c.args.labels.now) c.args.h c.args.site c.args.i c.requires.opens c.in_default.ensures, λ p. refl)
 
-pub overflow-mul-start : goal.overflow-mul-start
-overflow-mul-start g c =
+pub overflow_mul-start : goal.overflow_mul-start
+overflow_mul-start g c =
     let o = c.in-Some.ensures in
     let r = site-room (g.N.Links.span c.args.network.now) c.args.k c.in-Some.offer.site (c.requires.sound.each c.args.i c.args.site c.in-Some.offer.site o.value o.leads).end-in in
     search rules
 
-pub overflow-add-end : goal.overflow-add-end
-overflow-add-end g c =
+pub overflow_add-end : goal.overflow_add-end
+overflow_add-end g c =
     let o = c.in-Some.ensures in
     let r = site-room (g.N.Links.span c.args.network.now) c.args.k c.in-Some.offer.site (c.requires.sound.each c.args.i c.args.site c.in-Some.offer.site o.value o.leads).end-in in
     search rules
 
-pub is-dominated-requires : goal.is-dominated-requires
-is-dominated-requires g c =
+pub is_dominated-requires : goal.is_dominated-requires
+is_dominated-requires g c =
     let m = g.M.Measure in
     let o = c.in-Some.ensures in
     record {
@@ -32,11 +32,11 @@ is-dominated-requires g c =
       inside = rw c.requires.size (site-room (g.N.Links.span c.args.network.now) c.args.k c.in-Some.offer.site (c.requires.sound.each c.args.i c.args.site c.in-Some.offer.site o.value o.leads).end-in);
     }
 
-pub returns-then-is-dominated : goal.returns-then-is-dominated
-returns-then-is-dominated g c =
+pub returns-then-is_dominated : goal.returns-then-is_dominated
+returns-then-is_dominated g c =
     let m = g.M.Measure in
     let o = c.in-Some.ensures in
-    let (p, a, b, cov) = c.is-dominated.ensures.some c.if-is-dominated.true in
+    let (p, a, b, cov) = c.is_dominated.ensures.some c.if-is_dominated.true in
     (turn-dominated g.met.M.Measure.lawful c.args.limit c.requires.admitted (g.N.Links.links c.args.network.now) (links-made _ _ c.requires.sound) c.args.k c.args.ends.from c.args.ends.to (table m.kind c.args.labels.now) c.args.h c.args.site c.args.i c.requires.opens c.in-Some.offer.site c.in-Some.offer.value o p (a, b) cov, λ p. refl)
 
 pub put-requires : goal.put-requires
@@ -53,10 +53,10 @@ returns-then-put g c =
     let m = g.M.Measure in
     let o = c.in-Some.ensures in
     let (x, adds) = c.put.ensures.placed c.if-put.true in
-    turn-adds g.met.M.Measure.lawful c.args.limit c.requires.admitted (g.N.Links.links c.args.network.now) (links-made _ _ c.requires.sound) c.args.k c.args.ends.from c.args.ends.to (table m.kind c.args.labels.now) c.args.h c.args.site c.args.i c.requires.opens c.in-Some.offer.site c.in-Some.offer.value o (c.is-dominated.ensures.none c.if-is-dominated.false) (table m.kind c.put.new.labels) x adds
+    turn-adds g.met.M.Measure.lawful c.args.limit c.requires.admitted (g.N.Links.links c.args.network.now) (links-made _ _ c.requires.sound) c.args.k c.args.ends.from c.args.ends.to (table m.kind c.args.labels.now) c.args.h c.args.site c.args.i c.requires.opens c.in-Some.offer.site c.in-Some.offer.value o (c.is_dominated.ensures.none c.if-is_dominated.false) (table m.kind c.put.new.labels) x adds
 
 pub returns-else-put : goal.returns-else-put
 returns-else-put g c =
     let m = g.M.Measure in
     let o = c.in-Some.ensures in
-    turn-full g.met.M.Measure.lawful c.args.limit c.requires.admitted (g.N.Links.links c.args.network.now) (links-made _ _ c.requires.sound) c.args.k c.args.ends.from c.args.ends.to (table m.kind c.args.labels.now) c.args.h c.args.site c.args.i c.requires.opens c.in-Some.offer.site c.in-Some.offer.value o (c.is-dominated.ensures.none c.if-is-dominated.false) (c.put.ensures.full c.if-put.false)
+    turn-full g.met.M.Measure.lawful c.args.limit c.requires.admitted (g.N.Links.links c.args.network.now) (links-made _ _ c.requires.sound) c.args.k c.args.ends.from c.args.ends.to (table m.kind c.args.labels.now) c.args.h c.args.site c.args.i c.requires.opens c.in-Some.offer.site c.in-Some.offer.value o (c.is_dominated.ensures.none c.if-is_dominated.false) (c.put.ensures.full c.if-put.false)

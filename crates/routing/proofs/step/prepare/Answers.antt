@@ -4,5 +4,5 @@ use Rattle.routing.proofs.step.prepare.Goals as goal
 
 pub returns : goal.returns
 returns g c =
-    let lt : c.args.x < length c.free-all.new.labels = omega arith in
-    starts-made g.M.Measure.kind c.free-all.new.labels c.args.x c.empty.result c.empty.ensures lt c.free-all.ensures
+    let lt : c.args.x < length c.free_all.new.labels = omega arith in
+    starts-made g.M.Measure.kind c.free_all.new.labels c.args.x c.empty.result c.empty.ensures lt c.free_all.ensures
