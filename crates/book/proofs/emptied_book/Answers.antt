@@ -6,6 +6,6 @@ pub returns : goal.returns
 returns g c = record {
   book = search rules;
   begins = begins g.M.Measure.kind c.args.sites (length c.args.cards.now) c.empty_all.new.places c.args.rows.now c.empty_all.ensures;
-  same-cards = search rules;
+  same_cards = search rules;
   same_rows = search rules;
 }

@@ -21,7 +21,7 @@ returns-in_err-answer g c =
     record {
       labels = told.labels;
       answer = subst (λ (r : Result (Option (Route g.row.M.Denot)) Refusal). Card-answer g.M.Measure.kind (network-of c.args.catalogue.now) c.args.k c.args.ask c.args.mark (book-of q) c.args.card r after)
-          (sym (exits (err_from_is_err_and c.from-residual.result c.from-residual.ensures.1))) (site, full, crowded, same-book q q.sites refl refl rows);
+          (sym (exits (err_from_is_err_and c.from_residual.result c.from_residual.ensures.1))) (site, full, crowded, same-book q q.sites refl refl rows);
       places = (refl, refl);
     }
 

@@ -15,7 +15,7 @@ returns-in_err-check_sites g c =
     let cs = drop 1 (quote-causes K n b (length c.args.labels.now) c.args.card c.args.ask c.args.k) in
     let why = c.in_err-check_sites.field-0.0 in
     record {
-      outcome = moved (Quoted K n b c.args.labels.now c.args.card c.args.ask c.args.k) (exits (err_from_is_err_and c.from-residual.result c.from-residual.ensures.1)) refl
+      outcome = moved (Quoted K n b c.args.labels.now c.args.card c.args.ask c.args.k) (exits (err_from_is_err_and c.from_residual.result c.from_residual.ensures.1)) refl
           (quote-refused why (first-refused (differ n b) cs why c.in_err-check_sites.ensures));
       places = (refl, refl);
     }
@@ -28,7 +28,7 @@ returns-in_err-check_quote g c =
     let cs = drop 1 (quote-causes K n b (length c.args.labels.now) c.args.card c.args.ask c.args.k) in
     let why = c.in_err-check_quote.field-0.0 in
     record {
-      outcome = moved (Quoted K n b c.args.labels.now c.args.card c.args.ask c.args.k) (exits (err_from_is_err_and c.from-residual-in_err-check_quote.result c.from-residual-in_err-check_quote.ensures.1)) refl
+      outcome = moved (Quoted K n b c.args.labels.now c.args.card c.args.ask c.args.k) (exits (err_from_is_err_and c.from_residual-in_err-check_quote.result c.from_residual-in_err-check_quote.ensures.1)) refl
           (quote-refused why (first-passed (differ n b) cs c.in_ok-check_sites.ensures ∙ unless-tells (topmost cs) (Err why) c.in_err-check_quote.ensures));
       places = (refl, refl);
     }

@@ -16,7 +16,7 @@ returns-in_err-check_sites g c =
     let b = book-of c.args.book.now in
     let why = c.in_err-check_sites.field-0.0 in
     record {
-      outcome = moved (Rechecked K n b c.args.labels.now c.args.card c.args.k) (exits (err_from_is_err_and c.from-residual.result c.from-residual.ensures.1)) refl
+      outcome = moved (Rechecked K n b c.args.labels.now c.args.card c.args.k) (exits (err_from_is_err_and c.from_residual.result c.from_residual.ensures.1)) refl
           (recheck-refused why (first-refused (differ n b) (drop 1 (recheck-causes K n b (length c.args.labels.now) c.args.card c.args.k)) why c.in_err-check_sites.ensures));
       places = (refl, refl);
     }
@@ -28,7 +28,7 @@ returns-in_err-ask g c =
     let b = book-of c.args.book.now in
     let why = c.in_err-ask.field-0.0 in
     record {
-      outcome = moved (Rechecked K n b c.args.labels.now c.args.card c.args.k) (exits (err_from_is_err_and c.from-residual-in_err-ask.result c.from-residual-in_err-ask.ensures.1)) refl
+      outcome = moved (Rechecked K n b c.args.labels.now c.args.card c.args.k) (exits (err_from_is_err_and c.from_residual-in_err-ask.result c.from_residual-in_err-ask.ensures.1)) refl
           (recheck-refused why (recheck-why K n b c.args.card (length c.args.labels.now) c.args.k c.in_ok-check_sites.ensures why c.in_err-ask.ensures));
       places = (refl, refl);
     }

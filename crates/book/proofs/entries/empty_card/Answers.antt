@@ -19,7 +19,7 @@ returns-in_err-filled g c =
     let card = c.args.card in
     let why = c.in_err-filled.field-0.0 in
     record {
-      outcome = subst (λ (r : Result (Unit {0}) Refusal). Discarded b card r b) (sym (exits (err_from_is_err_and c.from-residual.result c.from-residual.ensures.1)))
+      outcome = subst (λ (r : Result (Unit {0}) Refusal). Discarded b card r b) (sym (exits (err_from_is_err_and c.from_residual.result c.from_residual.ensures.1)))
           (discard-refused why (filled-refused (topmost (discard-causes b card)) CardEmpty (at b.cards card) why (card-some b card) c.in_err-filled.ensures));
       places = (refl, refl);
     }

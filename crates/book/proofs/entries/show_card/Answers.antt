@@ -20,7 +20,7 @@ returns-in_err-it g c =
     let card = c.args.card in
     let reply = c.args.reply.now in
     let why = c.in_err-it.field-0.0 in
-    subst (λ (r : Result (Mark × Option (Route g.row.M.Denot)) Refusal). Shown b card c.args.start reply r reply) (sym (exits (err_from_is_err_and c.from-residual.result c.from-residual.ensures.1)))
+    subst (λ (r : Result (Mark × Option (Route g.row.M.Denot)) Refusal). Shown b card c.args.start reply r reply) (sym (exits (err_from_is_err_and c.from_residual.result c.from_residual.ensures.1)))
     (read-refused why (topmost-first (discard-causes b card) ((ltb (length reply) (c.args.start + legs-of (at b.cards card)), ReplyTooShort) ∷ []) why
     (filled-refused (topmost (discard-causes b card)) CardEmpty (at b.cards card) why (card-some b card) c.in_err-it.ensures)))
 

@@ -20,6 +20,6 @@ returns g c =
           ∙ ap (λ (o : Option (Card g.row.M.Denot g.row.M-Limit.Denot)). fell (either (struck-at rule b place)) o) c.card-was.ensures ∙ fell-so rule b place (at b.cards place);
       rows = search rules;
       sites = search rules;
-      same-cards = search rules;
+      same_cards = search rules;
       same_rows = search rules;
     }

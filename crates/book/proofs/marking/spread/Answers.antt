@@ -49,6 +49,6 @@ returns g c =
       doubted = partly-all (rule-of g.M.Measure.kind c.args.news) (book-of c.args.book.now) c.loop-place.book.cards.now c.loop-place.place c.loop-place.count
           c.loop-place-test.false c.loop-place.auto.place-end inv.0;
       book = same-book c.args.book.now c.loop-place.book.sites inv.2 inv.0.places inv.1;
-      same-cards = inv.3;
+      same_cards = inv.3;
       same_rows = inv.4;
     }

@@ -19,7 +19,7 @@ returns-in_err-check_sites g c =
     let n = network-of c.args.catalogue.now in
     let b = book-of c.args.book.now in
     let why = c.in_err-check_sites.field-0.0 in
-    let is = exits (err_from_is_err_and c.from-residual.result c.from-residual.ensures.1) in
+    let is = exits (err_from_is_err_and c.from_residual.result c.from_residual.ensures.1) in
     record {
       outcome = moved (Changed K n b c.args.place c.args.value) is refl refl (change-refused why (first-refused (differ n b) (replace-causes K n.links c.args.place c.args.value) why c.in_err-check_sites.ensures));
       links = refl;
@@ -33,7 +33,7 @@ returns-in_err-old g c =
     let b = book-of c.args.book.now in
     let cs = replace-causes K n.links c.args.place c.args.value in
     let why = c.in_err-old.field-0.0 in
-    let is = exits (err_from_is_err_and c.from-residual-in_err-old.result c.from-residual-in_err-old.ensures.1) in
+    let is = exits (err_from_is_err_and c.from_residual-in_err-old.result c.from_residual-in_err-old.ensures.1) in
     let told = c.in_err-old.ensures in
     let links = told.links ∙ ap (λ (r : Result (Link g.row.M.Denot) Refusal). elim r as (λ _. List (Option (Link g.row.M.Denot))) [ Ok old ↦ set n.links c.args.place (Some (revalued old c.args.value)) | Err _ ↦ n.links ]) (sym told.answer) in
     record {

@@ -18,7 +18,7 @@ returns-in_err-check_sites g c =
     let n = network-of c.args.catalogue.now in
     let b = book-of c.args.book.now in
     let why = c.in_err-check_sites.field-0.0 in
-    let is = exits (err_from_is_err_and c.from-residual.result c.from-residual.ensures.1) in
+    let is = exits (err_from_is_err_and c.from_residual.result c.from_residual.ensures.1) in
     record {
       outcome = moved (Offered K n b c.args.place c.args.link) is refl refl (offer-refused why (first-refused (differ n b) (store-causes K n.sites n.links c.args.place c.args.link) why c.in_err-check_sites.ensures));
       links = refl;
@@ -32,7 +32,7 @@ returns-in_err-store g c =
     let b = book-of c.args.book.now in
     let cs = store-causes K n.sites n.links c.args.place c.args.link in
     let why = c.in_err-store.field-0.0 in
-    let is = exits (err_from_is_err_and c.from-residual-in_err-store.result c.from-residual-in_err-store.ensures.1) in
+    let is = exits (err_from_is_err_and c.from_residual-in_err-store.result c.from_residual-in_err-store.ensures.1) in
     let told = c.in_err-store.ensures in
     let links = told.links ∙ ap (λ (r : Result (Unit {0}) Refusal). elim r as (λ _. List (Option (Link g.row.M.Denot))) [ Ok _ ↦ set n.links c.args.place (Some c.args.link) | Err _ ↦ n.links ]) (sym told.answer) in
     record {
