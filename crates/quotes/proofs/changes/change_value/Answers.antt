@@ -56,5 +56,5 @@ returns g c =
       outcome = moved (Changed K n b c.args.place c.args.value) refl (same-network c.args.catalogue.now c.replace.new.self told.sites links) c.spread.ensures.book
           (changed c.in_ok-old.old c.spread.result c.spread.new.book.cards.now (first-passed (differ n b) cs c.in_ok-check_sites.ensures ∙ passed.0) passed.1 c.spread.ensures.doubted);
       links = told.same;
-      places = (c.spread.ensures.same-cards, c.spread.ensures.same_rows);
+      places = (c.spread.ensures.same_cards, c.spread.ensures.same_rows);
     }

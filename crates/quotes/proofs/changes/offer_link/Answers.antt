@@ -55,5 +55,5 @@ returns g c =
       outcome = moved (Offered K n b c.args.place c.args.link) refl (same-network c.args.catalogue.now c.store.new.self told.sites links) c.spread.ensures.book
           (offered c.spread.result c.spread.new.book.cards.now (first-passed (differ n b) cs c.in_ok-check_sites.ensures ∙ passed) c.spread.ensures.doubted);
       links = told.same;
-      places = (c.spread.ensures.same-cards, c.spread.ensures.same_rows);
+      places = (c.spread.ensures.same_cards, c.spread.ensures.same_rows);
     }

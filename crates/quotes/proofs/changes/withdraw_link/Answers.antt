@@ -56,5 +56,5 @@ returns g c =
       outcome = moved (Withdrawn K n b c.args.place) refl (same-network c.args.catalogue.now c.remove.new.self told.sites links) c.spread.ensures.book
           (withdrawn c.spread.result c.spread.new.book.cards.now (first-passed (differ n b) cs c.in_ok-check_sites.ensures ∙ passed.0) c.spread.ensures.doubted);
       links = told.same;
-      places = (c.spread.ensures.same-cards, c.spread.ensures.same_rows);
+      places = (c.spread.ensures.same_cards, c.spread.ensures.same_rows);
     }
