@@ -7,7 +7,7 @@ use Rattle.feed.proofs.read_change.Goals as goal
 pub returns-in-2 : goal.returns-in-2
 unfolding record_of
 returns-in-2 c =
-    let measures = c.measures-from-bytes-measures.ensures in
-    reads-part c.type-inv.part
+    let measures = c.measures_from_bytes-measures.ensures in
+    reads-part c.type_inv.part
     (reads-record c.args.part.now c.args.place 2 14 c.requires refl (omega (arith, ltb-false))
-    (same-change c.from-be-bytes-link.ensures (same-measures _ measures.0 measures.1 measures.2)))
+    (same-change c.from_be_bytes-link.ensures (same-measures _ measures.0 measures.1 measures.2)))

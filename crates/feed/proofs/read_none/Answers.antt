@@ -6,9 +6,9 @@ use Rattle.feed.proofs.read_none.Goals as goal
 pub returns-in-len1-up : goal.returns-in-len1-up
 returns-in-len1-up c =
     let h : 0 < length c.args.part.now = search rules in
-    reads-part c.type-inv.part
+    reads-part c.type_inv.part
     (reads-refused c.args.part.now c.args.place _ (simp (length-take, length-drop) (omega arith))
-    (λ n b. simp (length-take, length-drop) (omega (arith, c.requires n b))) c.refusal-at-why.ensures)
+    (λ n b. simp (length-take, length-drop) (omega (arith, c.requires n b))) c.refusal_at-why.ensures)
 
 pub returns-in-empty : goal.returns-in-empty
-returns-in-empty c = reads-part c.type-inv.part (reads_nothing c.args.part.now c.args.place (search rules))
+returns-in-empty c = reads-part c.type_inv.part (reads_nothing c.args.part.now c.args.place (search rules))

@@ -8,7 +8,7 @@ use Rattle.feed.proofs.read_offer.Goals as goal
 pub returns-in-1 : goal.returns-in-1
 unfolding record_of
 returns-in-1 c =
-    let measures = c.measures-from-bytes-measures.ensures in
-    reads-part c.type-inv.part
+    let measures = c.measures_from_bytes-measures.ensures in
+    reads-part c.type_inv.part
     (reads-record c.args.part.now c.args.place 1 18 c.requires refl (omega (arith, ltb-false))
-    (same-long Offer c.from-be-bytes-link.ensures c.from-be-bytes-start.ensures c.from-be-bytes-end.ensures (same-measures _ measures.0 measures.1 measures.2)))
+    (same-long Offer c.from_be_bytes-link.ensures c.from_be_bytes-start.ensures c.from_be_bytes-end.ensures (same-measures _ measures.0 measures.1 measures.2)))

@@ -8,7 +8,7 @@ use Rattle.feed.proofs.read_quote.Goals as goal
 pub returns-in-4 : goal.returns-in-4
 unfolding record_of
 returns-in-4 c =
-    let limits = c.measures-from-bytes-limits.ensures in
-    reads-part c.type-inv.part
+    let limits = c.measures_from_bytes-limits.ensures in
+    reads-part c.type_inv.part
     (reads-record c.args.part.now c.args.place 4 18 c.requires refl (omega (arith, ltb-false))
-    (same-long Quote c.from-be-bytes-card.ensures c.from-be-bytes-source.ensures c.from-be-bytes-destination.ensures (same-measures _ limits.0 limits.1 limits.2)))
+    (same-long Quote c.from_be_bytes-card.ensures c.from_be_bytes-source.ensures c.from_be_bytes-destination.ensures (same-measures _ limits.0 limits.1 limits.2)))

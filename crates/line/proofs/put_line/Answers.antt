@@ -6,19 +6,19 @@ use Rattle.line.proofs.Pasting.{wrote_none, wrote-more, same-wrote}
 use Rattle.line.proofs.Wording.{length-line, word_room, words_more, words-all}
 use Rattle.line.proofs.put_line.Goals as goal
 
-pub put-number-at-requires : goal.put-number-at-requires
-put-number-at-requires c = let e = length-line (decimal c.args.number) (words c.args.reply c.args.legs.now) in omega arith
+pub put_number-at-requires : goal.put_number-at-requires
+put_number-at-requires c = let e = length-line (decimal c.args.number) (words c.args.reply c.args.legs.now) in omega arith
 
 pub loop-word-init : goal.loop-word-init
-loop-word-init c = (wrote_none c.put-number-at.result c.put-number-at.new.buffer, omega arith)
+loop-word-init c = (wrote_none c.put_number-at.result c.put_number-at.new.buffer, omega arith)
 
-pub put-text-space-requires : goal.put-text-space-requires
-put-text-space-requires c =
+pub put_text-space-requires : goal.put_text-space-requires
+put_text-space-requires c =
     let room = word_room (decimal c.args.number) (words c.args.reply c.args.legs.now) c.loop-word.i (spelled c.in-Some.word) c.in-Some.ensures in
     omega arith
 
-pub put-word-at-requires : goal.put-word-at-requires
-put-word-at-requires c =
+pub put_word-at-requires : goal.put_word-at-requires
+put_word-at-requires c =
     let room = word_room (decimal c.args.number) (words c.args.reply c.args.legs.now) c.loop-word.i (spelled c.in-Some.word) c.in-Some.ensures in
     omega arith
 
@@ -33,15 +33,15 @@ loop-word-preserved c =
     let ws = words c.args.reply c.args.legs.now in
     let room = word_room (decimal c.args.number) ws c.loop-word.i (spelled c.in-Some.word) here in
     let so_far = flat_map after-space (take c.loop-word.i ws) in
-    let from = c.put-number-at.result in
-    let first = c.put-number-at.new.buffer in
-    let word = wrote-more (codes " ") (spelled c.in-Some.word) c.loop-word.at c.put-text-space.result c.put-word-at.result c.loop-word.buffer c.put-text-space.new.buffer c.put-word-at.new.buffer (omega arith) c.put-text-space.ensures c.put-word-at.ensures in
+    let from = c.put_number-at.result in
+    let first = c.put_number-at.new.buffer in
+    let word = wrote-more (codes " ") (spelled c.in-Some.word) c.loop-word.at c.put_text-space.result c.put_word-at.result c.loop-word.buffer c.put_text-space.new.buffer c.put_word-at.new.buffer (omega arith) c.put_text-space.ensures c.put_word-at.ensures in
     let longer : so_far ++ after-space (spelled c.in-Some.word) ≡ flat_map after-space (take (c.loop-word.i + 1) ws) =
     ap (λ (w : List ℕ). so_far ++ after-space w) here.1 ∙ sym (words_more ws c.loop-word.i here.0) in
-    (same-wrote from first c.put-word-at.new.buffer c.put-word-at.result longer (wrote-more so_far (after-space (spelled c.in-Some.word)) from c.loop-word.at c.put-word-at.result first c.loop-word.buffer c.put-word-at.new.buffer (omega arith) c.loop-word.invariant.0 word), omega arith)
+    (same-wrote from first c.put_word-at.new.buffer c.put_word-at.result longer (wrote-more so_far (after-space (spelled c.in-Some.word)) from c.loop-word.at c.put_word-at.result first c.loop-word.buffer c.put_word-at.new.buffer (omega arith) c.loop-word.invariant.0 word), omega arith)
 
-pub put-text-requires : goal.put-text-requires
-put-text-requires c =
+pub put_text-requires : goal.put_text-requires
+put_text-requires c =
     let e = length-line (decimal c.args.number) (words c.args.reply c.args.legs.now) in
     let all = ap length (words-all (words c.args.reply c.args.legs.now) c.loop-word.i c.in_default.ensures) in
     omega arith
@@ -50,8 +50,8 @@ pub returns : goal.returns
 returns c =
     let e = length-line (decimal c.args.number) (words c.args.reply c.args.legs.now) in
     let all = words-all (words c.args.reply c.args.legs.now) c.loop-word.i c.in_default.ensures in
-    let from = c.put-number-at.result in
-    let first = c.put-number-at.new.buffer in
+    let from = c.put_number-at.result in
+    let first = c.put_number-at.new.buffer in
     let ws = flat_map after-space (words c.args.reply c.args.legs.now) in
-    let rest = wrote-more ws (codes "\n") from c.loop-word.at c.put-text.result first c.loop-word.buffer c.put-text.new.buffer (omega arith) (same-wrote from first c.loop-word.buffer c.loop-word.at all c.loop-word.invariant.0) c.put-text.ensures in
-    wrote-more (decimal c.args.number) (ws ++ codes "\n") c.args.start from c.put-text.result c.args.buffer.now first c.put-text.new.buffer (omega arith) c.put-number-at.ensures rest
+    let rest = wrote-more ws (codes "\n") from c.loop-word.at c.put_text.result first c.loop-word.buffer c.put_text.new.buffer (omega arith) (same-wrote from first c.loop-word.buffer c.loop-word.at all c.loop-word.invariant.0) c.put_text.ensures in
+    wrote-more (decimal c.args.number) (ws ++ codes "\n") c.args.start from c.put_text.result c.args.buffer.now first c.put_text.new.buffer (omega arith) c.put_number-at.ensures rest
