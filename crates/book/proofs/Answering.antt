@@ -9,21 +9,21 @@ use Rattle.report.specs.declared.Refusal.{Refusal}
 use Rattle.report.specs.declared.Refusal.TheVariants.{CardEmpty}
 use Rattle.routing.specs.declared.Ask.{Ask}
 use Rattle.routing.specs.declared.Route.{Route}
-use Rattle.routing.specs.Searching.{row_of, route-causes, Answered}
+use Rattle.routing.specs.Searching.{row_of, route_causes, Answered}
 use Rattle.report.specs.declared.Mark.TheVariants.{Standing, Doubtful}
-use Rattle.report.specs.Refusals.{topmost, unless, filled-or}
+use Rattle.report.specs.Refusals.{topmost, unless, filled_or}
 use Rattle.catalogue.specs.Places.{at}
 use Rattle.labels.specs.declared.Label.{Label}
 use Rattle.cards.specs.declared.Card.{Card}
 use Rattle.cards.specs.Books.{Network, Book}
-use Rattle.cards.specs.Calls.{Emptied, differ, of-ask, ends-out, limit-out, quote-causes, recheck-causes, Quoted, quoted, quote-full, Rechecked, rechecked, recheck-full}
+use Rattle.cards.specs.Calls.{Emptied, differ, of_ask, ends_out, limit_out, quote_causes, recheck_causes, Quoted, quoted, quote_full, Rechecked, rechecked, recheck_full}
 use Rattle.cards.proofs.Clearing.{cleared}
-use Rattle.book.proofs.Refusing.{first-passed, filled-refused, filled-passed}
-use Rattle.book.specs.Answers.{Row-answer, Card-answer}
+use Rattle.book.proofs.Refusing.{first_passed, filled_refused, filled_passed}
+use Rattle.book.specs.Answers.{RowAnswer, CardAnswer}
 
 -- a part written back where it came from
-pub paste-back : (rows row : List ℕ) (start width : ℕ) → start + width ≤ length rows → row ≡ take width (drop start rows) → paste rows start row width ≡ rows
-paste-back rows row start width fits is =
+pub paste_back : (rows row : List ℕ) (start width : ℕ) → start + width ≤ length rows → row ≡ take width (drop start rows) → paste rows start row width ≡ rows
+paste_back rows row start width fits is =
     append_assoc (take start rows) (take width row) (drop (start + width) rows)
     ∙ ap (λ xs. take start rows ++ xs) (
     ap (λ xs. take width xs ++ drop (start + width) rows) is ∙ ap (λ xs. xs ++ drop (start + width) rows) (take-take width width (drop start rows) (omega arith))
@@ -35,63 +35,63 @@ row_room : (legs row : List ℕ) (width : ℕ) → row ≡ row_of legs width →
 row_room legs row width is long = let h = simp (length-append, length-replicate) at (ap length is) in omega arith
 
 module _ {V L : Type 0} (K : Kind V L) (n : Network V) (k : ℕ) (ask : Ask L) (rows row row' rows' : List ℕ) (start width : ℕ) where
-  pub row-answered : start + width ≤ length rows → row ≡ take width (drop start rows) → length row ≡ width → length row' ≡ width → rows' ≡ paste rows start row' width →
-      (r : Result (Option (Route V)) Refusal) → Answered K n.sites n.links k ask row row' r → Row-answer K n k ask rows start width r rows'
-  row-answered fits is long long' put (Ok (Some route)) (sound, legs, left, count, ratio, best) =
+  pub row_answered : start + width ≤ length rows → row ≡ take width (drop start rows) → length row ≡ width → length row' ≡ width → rows' ≡ paste rows start row' width →
+      (r : Result (Option (Route V)) Refusal) → Answered K n.sites n.links k ask row row' r → RowAnswer K n k ask rows start width r rows'
+  row_answered fits is long long' put (Ok (Some route)) (sound, legs, left, count, ratio, best) =
       let own : row' ≡ row_of legs width = left ∙ ap (row_of legs) long in
       (legs, (sound, count, ratio, best), row_room legs row' width own long', put ∙ ap (λ xs. paste rows start xs width) own)
-  row-answered fits is long long' put (Ok None) (left, out) =
+  row_answered fits is long long' put (Ok None) (left, out) =
       let own : row' ≡ row_of [] width = left ∙ ap (row_of []) long in
       ([], (refl, out), omega arith, put ∙ ap (λ xs. paste rows start xs width) own)
-  row-answered fits is long long' put (Err why) (sound, left, site, full, crowded) =
-      (site, full, crowded, put ∙ ap (λ xs. paste rows start xs width) left ∙ paste-back rows row start width fits is)
+  row_answered fits is long long' put (Err why) (sound, left, site, full, crowded) =
+      (site, full, crowded, put ∙ ap (λ xs. paste rows start xs width) left ∙ paste_back rows row start width fits is)
 
 -- an outcome at what equals its answer and the quote book that it leaves
 pub moved : {V L : Type 0} (P : Result (Option (Route V)) Refusal → Book V L → List (Label V) → Type 0) {r r' : Result (Option (Route V)) Refusal} {b b' : Book V L} {labels : List (Label V)} → r' ≡ r → b' ≡ b → P r b labels → P r' b' labels
 moved P {r} {r'} {b} {b'} {labels} er eb h = subst (λ x. P x b' labels) (sym er) (subst (λ x. P r x labels) (sym eb) h)
 
 module _ {V L : Type 0} {K : Kind V L} {n : Network V} {b : Book V L} {labels : List (Label V)} {card : ℕ} where
-  pub quoted-so : {ask : Ask L} {k : ℕ} (r : Result (Option (Route V)) Refusal) {b' : Book V L} {labels' : List (Label V)} → topmost (quote-causes K n b (length labels) card ask k) ≡ None →
-      Emptied K labels' → Card-answer K n k ask Standing b card r b' → Quoted K n b labels card ask k r b' labels'
-  quoted-so {ask} {k} (Ok answer) {labels' = labels'} free empty (legs, found, is) = moved (Quoted K n b labels card ask k) refl is (quoted answer legs labels' free found empty)
-  quoted-so {ask} {k} (Err why) {labels' = labels'} free empty (site, full, crowded, is) = moved (Quoted K n b labels card ask k) (ap Err full) is (quote-full site labels' free crowded empty)
+  pub quoted_so : {ask : Ask L} {k : ℕ} (r : Result (Option (Route V)) Refusal) {b' : Book V L} {labels' : List (Label V)} → topmost (quote_causes K n b (length labels) card ask k) ≡ None →
+      Emptied K labels' → CardAnswer K n k ask Standing b card r b' → Quoted K n b labels card ask k r b' labels'
+  quoted_so {ask} {k} (Ok answer) {labels' = labels'} free empty (legs, found, is) = moved (Quoted K n b labels card ask k) refl is (quoted answer legs labels' free found empty)
+  quoted_so {ask} {k} (Err why) {labels' = labels'} free empty (site, full, crowded, is) = moved (Quoted K n b labels card ask k) (ap Err full) is (quote_full site labels' free crowded empty)
 
-  pub rechecked-so : {k : ℕ} (it : Card V L) (r : Result (Option (Route V)) Refusal) {b' : Book V L} {labels' : List (Label V)} → topmost (recheck-causes K n b (length labels) card k) ≡ None →
-      at b.cards card ≡ Some it → it.mark ≡ Doubtful → Emptied K labels' → Card-answer K n k it.ask Standing b card r b' → Rechecked K n b labels card k r b' labels'
-  rechecked-so {k} it (Ok answer) {labels' = labels'} free here doubtful empty (legs, found, is) = moved (Rechecked K n b labels card k) refl is (rechecked it answer legs labels' free here doubtful found empty)
-  rechecked-so {k} it (Err why) {labels' = labels'} free here doubtful empty (site, full, crowded, is) = moved (Rechecked K n b labels card k) (ap Err full) is (recheck-full it site labels' free here doubtful crowded empty)
+  pub rechecked_so : {k : ℕ} (it : Card V L) (r : Result (Option (Route V)) Refusal) {b' : Book V L} {labels' : List (Label V)} → topmost (recheck_causes K n b (length labels) card k) ≡ None →
+      at b.cards card ≡ Some it → it.mark ≡ Doubtful → Emptied K labels' → CardAnswer K n k it.ask Standing b card r b' → Rechecked K n b labels card k r b' labels'
+  rechecked_so {k} it (Ok answer) {labels' = labels'} free here doubtful empty (legs, found, is) = moved (Rechecked K n b labels card k) refl is (rechecked it answer legs labels' free here doubtful found empty)
+  rechecked_so {k} it (Err why) {labels' = labels'} free here doubtful empty (site, full, crowded, is) = moved (Rechecked K n b labels card k) (ap Err full) is (recheck_full it site labels' free here doubtful crowded empty)
 
 module _ {V L : Type 0} (K : Kind V L) (n : Network V) (b : Book V L) (card room k : ℕ) (sites : ◌≡◌ {A = Result (Unit {0}) Refusal} (Ok tt) (unless (topmost (differ n b ∷ [])) (Ok tt))) where
   -- the causes of a recheck, the number of sites aside
   abbrev rest : List (Bool × Refusal)
-  rest = drop 1 (recheck-causes K n b room card k)
+  rest = drop 1 (recheck_causes K n b room card k)
 
-  same : topmost (recheck-causes K n b room card k) ≡ topmost rest
-  same = first-passed (differ n b) rest sites
+  same : topmost (recheck_causes K n b room card k) ≡ topmost rest
+  same = first_passed (differ n b) rest sites
 
-  recheck-some : topmost rest ≡ None → is_some (at b.cards card) ≡ true
-  recheck-some e = not-false _ (cleared rest e).1.1.1.0
+  recheck_some : topmost rest ≡ None → is_some (at b.cards card) ≡ true
+  recheck_some e = not-false _ (cleared rest e).1.1.1.0
 
-  pub recheck-why : (why : Refusal) → Err why ≡ unless (topmost rest) (filled-or CardEmpty (at b.cards card)) → topmost (recheck-causes K n b room card k) ≡ Some why
-  recheck-why why e = same ∙ filled-refused (topmost rest) CardEmpty (at b.cards card) why recheck-some e
+  pub recheck_why : (why : Refusal) → Err why ≡ unless (topmost rest) (filled_or CardEmpty (at b.cards card)) → topmost (recheck_causes K n b room card k) ≡ Some why
+  recheck_why why e = same ∙ filled_refused (topmost rest) CardEmpty (at b.cards card) why recheck_some e
 
   -- what a recheck that is not refused knows of its card
   pub record Rechecks (it : Card V L) : Type 0 where
-    pub unrefused : topmost (recheck-causes K n b room card k) ≡ None
+    pub unrefused : topmost (recheck_causes K n b room card k) ≡ None
     pub here : at b.cards card ≡ Some it
     pub inside : card < length b.cards
-    pub free : topmost (route-causes K n.sites room k it.ask b.width) ≡ None
+    pub free : topmost (route_causes K n.sites room k it.ask b.width) ≡ None
 
-  pub rechecks : (it : Card V L) → Ok it ≡ unless (topmost rest) (filled-or CardEmpty (at b.cards card)) → Rechecks it
+  pub rechecks : (it : Card V L) → Ok it ≡ unless (topmost rest) (filled_or CardEmpty (at b.cards card)) → Rechecks it
   rechecks it e =
-      let (none, here) = filled-passed (topmost rest) CardEmpty (at b.cards card) it e in
-      let no = cleared (recheck-causes K n b room card k) (same ∙ none) in
+      let (none, here) = filled_passed (topmost rest) CardEmpty (at b.cards card) it e in
+      let no = cleared (recheck_causes K n b room card k) (same ∙ none) in
       let width : b.width ≡ n.sites = eqb-true _ _ (not-false _ no.0) in
       let wide : n.sites ≤ b.width = omega (arith, width) in
       record {
         unrefused = same ∙ none;
         here = here;
         inside = leb-false _ _ no.1.0;
-        free = cond-false _ _ _ (ap (of-ask (ends-out n)) (sym here) ∙ no.1.1.0) ∙ cond-false _ _ _ (ap (of-ask (limit-out K)) (sym here) ∙ no.1.1.1.0)
+        free = cond-false _ _ _ (ap (of_ask (ends_out n)) (sym here) ∙ no.1.1.0) ∙ cond-false _ _ _ (ap (of_ask (limit_out K)) (sym here) ∙ no.1.1.1.0)
             ∙ cond-false _ _ _ no.1.1.1.1.1.0 ∙ cond-false _ _ _ (le-ltb _ _ wide);
       }

@@ -5,43 +5,43 @@ use Rattle.catalogue.specs.declared.Catalogue.{Catalogue}
 use Rattle.catalogue.specs.declared.Link.{Link}
 use Rattle.routing.specs.Searching.{row_of}
 use Rattle.cards.specs.declared.Card.{Card}
-use Rattle.cards.specs.Books.{Network, Book, with-links, with-cards, with-card}
-use Rattle.cards.proofs.Rows.{row-length}
+use Rattle.cards.specs.Books.{Network, Book, with_links, with_cards, with_card}
+use Rattle.cards.proofs.Rows.{row_length}
 use Rattle.book.specs.declared.QuoteBook.{QuoteBook}
-use Rattle.book.specs.Stores.{row-width, network-of, book-of}
+use Rattle.book.specs.Stores.{row_width, network_of, book_of}
 
 abbrev placed : {V : Type 0} → ℕ → List (Option (Link V)) → Network V
 placed s links = record { sites = s; links = links }
 
 -- a catalogue whose links alone are others
-pub same-network : {V : Type 0} (c c' : Catalogue V) {links : List (Option (Link V))} → c'.sites ≡ c.sites → c'.links.now ≡ links → network-of c' ≡ with-links (network-of c) links
-same-network {V} c c' sites is = ap (λ (s : ℕ). placed s c'.links.now) sites ∙ ap (λ (ls : List (Option (Link V))). placed c.sites ls) is
+pub same_network : {V : Type 0} (c c' : Catalogue V) {links : List (Option (Link V))} → c'.sites ≡ c.sites → c'.links.now ≡ links → network_of c' ≡ with_links (network_of c) links
+same_network {V} c c' sites is = ap (λ (s : ℕ). placed s c'.links.now) sites ∙ ap (λ (ls : List (Option (Link V))). placed c.sites ls) is
 
 module _ {V L : Type 0} where
   abbrev sized : ℕ → List (Option (Card V L)) → List ℕ → Book V L
   sized width cards rows = record { width = width; cards = cards; rows = rows }
 
   abbrev whole : ℕ → List (Option (Card V L)) → List ℕ → Book V L
-  whole sites cards rows = sized (row-width sites (length cards) (length rows)) cards rows
+  whole sites cards rows = sized (row_width sites (length cards) (length rows)) cards rows
 
   -- a quote book of as many card places and row numbers has rows of the same width
   resized : (q : QuoteBook V L) (sites' : ℕ) {cards cards' : List (Option (Card V L))} {rows rows' : List ℕ} → sites' ≡ q.sites → cards' ≡ cards → rows' ≡ rows →
-      length cards ≡ length q.cards.now → length rows ≡ length q.rows.now → whole sites' cards' rows' ≡ sized (book-of q).width cards rows
+      length cards ≡ length q.cards.now → length rows ≡ length q.rows.now → whole sites' cards' rows' ≡ sized (book_of q).width cards rows
   resized q sites' {cards} {cards'} {rows} {rows'} sites is-cards is-rows few long =
       ap (λ (s : ℕ). whole s cards' rows') sites ∙ ap (λ (xs : List (Option (Card V L))). whole q.sites xs rows') is-cards
-      ∙ ap (λ (xs : List ℕ). whole q.sites cards xs) is-rows ∙ ap (λ (n : ℕ). sized (row-width q.sites n (length rows)) cards rows) few
-      ∙ ap (λ (n : ℕ). sized (row-width q.sites (length q.cards.now) n) cards rows) long
+      ∙ ap (λ (xs : List ℕ). whole q.sites cards xs) is-rows ∙ ap (λ (n : ℕ). sized (row_width q.sites n (length rows)) cards rows) few
+      ∙ ap (λ (n : ℕ). sized (row_width q.sites (length q.cards.now) n) cards rows) long
 
   -- a quote book whose cards alone are others
-  pub same-book : (q : QuoteBook V L) (sites' : ℕ) {cards' : List (Option (Card V L))} {rows' : List ℕ} → sites' ≡ q.sites → length cards' ≡ length q.cards.now → rows' ≡ q.rows.now →
-      whole sites' cards' rows' ≡ with-cards (book-of q) cards'
-  same-book q sites' sites few rows = resized q sites' sites refl rows few refl
+  pub same_book : (q : QuoteBook V L) (sites' : ℕ) {cards' : List (Option (Card V L))} {rows' : List ℕ} → sites' ≡ q.sites → length cards' ≡ length q.cards.now → rows' ≡ q.rows.now →
+      whole sites' cards' rows' ≡ with_cards (book_of q) cards'
+  same_book q sites' sites few rows = resized q sites' sites refl rows few refl
 
   -- a quote book with another card and its row
   pub refiled : (q : QuoteBook V L) (sites' : ℕ) {cards' : List (Option (Card V L))} {rows' : List ℕ} (c : ℕ) (card : Option (Card V L)) (legs : List ℕ) →
-      c * (book-of q).width + (book-of q).width ≤ length q.rows.now → length legs ≤ (book-of q).width → sites' ≡ q.sites → cards' ≡ set q.cards.now c card →
-      rows' ≡ paste q.rows.now (c * (book-of q).width) (row_of legs (book-of q).width) (book-of q).width → whole sites' cards' rows' ≡ with-card (book-of q) c card legs
+      c * (book_of q).width + (book_of q).width ≤ length q.rows.now → length legs ≤ (book_of q).width → sites' ≡ q.sites → cards' ≡ set q.cards.now c card →
+      rows' ≡ paste q.rows.now (c * (book_of q).width) (row_of legs (book_of q).width) (book_of q).width → whole sites' cards' rows' ≡ with_card (book_of q) c card legs
   refiled q sites' c card legs inside few sites cards rows =
-      let w = (book-of q).width in
-      let row = row-length legs w few in
+      let w = (book_of q).width in
+      let row = row_length legs w few in
       resized q sites' sites cards rows (length-set q.cards.now c card) (length-paste q.rows.now (c * w) (row_of legs w) w inside (omega arith))

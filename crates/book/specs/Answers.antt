@@ -10,22 +10,22 @@ use Rattle.routing.specs.declared.Ask.{Ask}
 use Rattle.routing.specs.declared.Route.{Route}
 use Rattle.routing.specs.Searching.{row_of}
 use Rattle.cards.specs.declared.Card.{Card}
-use Rattle.cards.specs.Books.{Network, Book, with-card}
+use Rattle.cards.specs.Books.{Network, Book, with_card}
 use Rattle.cards.specs.Calls.{Found, Overfull}
 
-abbrev pub network-with : {V : Type 0} → ℕ → List (Option (Link V)) → Network V
-network-with sites links = record { sites = sites; links = links }
+abbrev pub network_with : {V : Type 0} → ℕ → List (Option (Link V)) → Network V
+network_with sites links = record { sites = sites; links = links }
 
-abbrev pub card-of : {V L : Type 0} → Ask L → Option (Route V) → Mark → Card V L
-card-of ask answer mark = record { ask = ask; answer = answer; mark = mark }
+abbrev pub card_of : {V L : Type 0} → Ask L → Option (Route V) → Mark → Card V L
+card_of ask answer mark = record { ask = ask; answer = answer; mark = mark }
 
 -- the rows after routing, with the legs in the row that begins at the start place; a site that is full leaves them as they were
-abbrev pub Row-answer : {V L : Type 0} → Kind V L → Network V → ℕ → Ask L → List ℕ → ℕ → ℕ → Result (Option (Route V)) Refusal → List ℕ → Type 0
-Row-answer K n k ask rows start width (Ok answer) rows' =
+abbrev pub RowAnswer : {V L : Type 0} → Kind V L → Network V → ℕ → Ask L → List ℕ → ℕ → ℕ → Result (Option (Route V)) Refusal → List ℕ → Type 0
+RowAnswer K n k ask rows start width (Ok answer) rows' =
     (legs : List ℕ) × Found K n ask answer legs × (length legs ≤ width) × (rows' ≡ paste rows start (row_of legs width) width)
-Row-answer K n k ask rows start width (Err why) rows' = (site : ℕ) × (why ≡ LabelsFull site) × Overfull K n ask k site × (rows' ≡ rows)
+RowAnswer K n k ask rows start width (Err why) rows' = (site : ℕ) × (why ≡ LabelsFull site) × Overfull K n ask k site × (rows' ≡ rows)
 
 -- the quote book after routing for a card
-abbrev pub Card-answer : {V L : Type 0} → Kind V L → Network V → ℕ → Ask L → Mark → Book V L → ℕ → Result (Option (Route V)) Refusal → Book V L → Type 0
-Card-answer K n k ask mark b card (Ok answer) b' = (legs : List ℕ) × Found K n ask answer legs × (b' ≡ with-card b card (Some (card-of ask answer mark)) legs)
-Card-answer K n k ask mark b card (Err why) b' = (site : ℕ) × (why ≡ LabelsFull site) × Overfull K n ask k site × (b' ≡ b)
+abbrev pub CardAnswer : {V L : Type 0} → Kind V L → Network V → ℕ → Ask L → Mark → Book V L → ℕ → Result (Option (Route V)) Refusal → Book V L → Type 0
+CardAnswer K n k ask mark b card (Ok answer) b' = (legs : List ℕ) × Found K n ask answer legs × (b' ≡ with_card b card (Some (card_of ask answer mark)) legs)
+CardAnswer K n k ask mark b card (Err why) b' = (site : ℕ) × (why ≡ LabelsFull site) × Overfull K n ask k site × (b' ≡ b)

@@ -1,12 +1,12 @@
 //! The calls that look for a card's best route.
 ghost use Rattle.std.specs.Prelude.{◌≡◌, ◌+◌, ◌<◌, ◌≤◌, ◌||◌, [], ◌∷◌, length, drop, None, Ok, nat_le};
 ghost use Rattle.report.specs.declared.Refusal.TheVariants.{CardEmpty};
-ghost use Rattle.report.specs.Refusals.{topmost, unless, filled-or};
+ghost use Rattle.report.specs.Refusals.{topmost, unless, filled_or};
 ghost use Rattle.catalogue.specs.Places.{at};
-ghost use Rattle.routing.specs.Searching.{route-causes};
-ghost use Rattle.cards.specs.Calls.{Emptied, differ, quote-causes, recheck-causes, Quoted, Rechecked};
-ghost use Rattle.book.specs.Stores.{network-of, book-of, Same-places};
-ghost use Rattle.book.specs.Answers.{network-with, Row-answer, Card-answer};
+ghost use Rattle.routing.specs.Searching.{route_causes};
+ghost use Rattle.cards.specs.Calls.{Emptied, differ, quote_causes, recheck_causes, Quoted, Rechecked};
+ghost use Rattle.book.specs.Stores.{network_of, book_of, SamePlaces};
+ghost use Rattle.book.specs.Answers.{network_with, RowAnswer, CardAnswer};
 
 use crate::{QuoteBook, write_place};
 use cards::{Card, MarkEvent};
@@ -22,7 +22,7 @@ pub fn check_sites<M: Measure>(
     catalogue: &Catalogue<'_, M>,
     book: &QuoteBook<'_, M, M::Limit>,
 ) -> Result<(), Refusal>
-    ensures { result ≡ unless (topmost (differ (network-of catalogue.now) (book-of book.now) ∷ [])) (Ok tt) }
+    ensures { result ≡ unless (topmost (differ (network_of catalogue.now) (book_of book.now) ∷ [])) (Ok tt) }
 {
     if book.width() != catalogue.sites() {
         return Err(Refusal::SitesDiffer);
@@ -46,7 +46,7 @@ fn check_quote<M: Measure>(
     ask: Ask<M::Limit>,
     k: usize,
 ) -> Result<(), Refusal>
-    ensures { result ≡ unless (topmost (drop 1 (quote-causes M.Measure.kind (network-of catalogue.now) (book-of book.now) room card ask k))) (Ok tt) }
+    ensures { result ≡ unless (topmost (drop 1 (quote_causes M.Measure.kind (network_of catalogue.now) (book_of book.now) room card ask k))) (Ok tt) }
 {
     let sites = catalogue.sites();
     if card >= book.cards.len() {
@@ -75,7 +75,7 @@ fn check_recheck<M: Measure>(
     card: usize,
     k: usize,
 ) -> Result<Card<M, M::Limit>, Refusal>
-    ensures { result ≡ unless (topmost (drop 1 (recheck-causes M.Measure.kind (network-of catalogue.now) (book-of book.now) room card k))) (filled-or CardEmpty (at book.now.cards.now card)) }
+    ensures { result ≡ unless (topmost (drop 1 (recheck_causes M.Measure.kind (network_of catalogue.now) (book_of book.now) room card k))) (filled_or CardEmpty (at book.now.cards.now card)) }
 {
     let sites = catalogue.sites();
     if card >= book.cards.len() {
@@ -108,9 +108,9 @@ fn find_in_row<M: Measure, N: Links<M>>(
     width: usize,
 ) -> Result<Option<Route<M>>, Refusal>
     requires inside { start + width ≤ length rows.old }
-    requires free { topmost (route-causes M.Measure.kind (N.Links.span network.now) (length labels.old) k ask width) ≡ None }
+    requires free { topmost (route_causes M.Measure.kind (N.Links.span network.now) (length labels.old) k ask width) ≡ None }
     ensures labels { Emptied M.Measure.kind labels.new }
-    ensures answer { Row-answer M.Measure.kind (network-with (N.Links.span network.now) (N.Links.links network.now)) k ask rows.old start width result rows.new }
+    ensures answer { RowAnswer M.Measure.kind (network_with (N.Links.span network.now) (N.Links.links network.now)) k ask rows.old start width result rows.new }
 {
     let row = &mut rows[start..start + width];
     find_route(network, labels, k, ask, row)
@@ -127,10 +127,10 @@ fn answer_card<M: Measure>(
     mark: Mark,
 ) -> Result<Option<Route<M>>, Refusal>
     requires inside { card < length book.old.cards.now }
-    requires free { topmost (route-causes M.Measure.kind catalogue.now.sites (length labels.old) k ask (book-of book.old).width) ≡ None }
+    requires free { topmost (route_causes M.Measure.kind catalogue.now.sites (length labels.old) k ask (book_of book.old).width) ≡ None }
     ensures labels { Emptied M.Measure.kind labels.new }
-    ensures answer { Card-answer M.Measure.kind (network-of catalogue.now) k ask mark (book-of book.old) card result (book-of book.new) }
-    ensures places { Same-places book.old book.new }
+    ensures answer { CardAnswer M.Measure.kind (network_of catalogue.now) k ask mark (book_of book.old) card result (book_of book.new) }
+    ensures places { SamePlaces book.old book.new }
 {
     let width = book.width();
     let start = book.row_start(card);
@@ -147,8 +147,8 @@ fn quote_card<M: Measure>(
     ask: Ask<M::Limit>,
     k: usize,
 ) -> Result<Option<Route<M>>, Refusal>
-    ensures outcome { Quoted M.Measure.kind (network-of catalogue.now) (book-of book.old) labels.old card ask k result (book-of book.new) labels.new }
-    ensures places { Same-places book.old book.new }
+    ensures outcome { Quoted M.Measure.kind (network_of catalogue.now) (book_of book.old) labels.old card ask k result (book_of book.new) labels.new }
+    ensures places { SamePlaces book.old book.new }
 {
     check_sites(catalogue, &*book)?;
     check_quote(catalogue, &*book, labels.len(), card, ask, k)?;
@@ -164,8 +164,8 @@ pub fn quote<M: Measure>(
     ask: Ask<M::Limit>,
     k: usize,
 ) -> Result<Option<Route<M>>, Refusal>
-    ensures outcome { Quoted M.Measure.kind (network-of catalogue.now) (book-of book.old) labels.old card ask k result (book-of book.new) labels.new }
-    ensures places { Same-places book.old book.new }
+    ensures outcome { Quoted M.Measure.kind (network_of catalogue.now) (book_of book.old) labels.old card ask k result (book_of book.new) labels.new }
+    ensures places { SamePlaces book.old book.new }
 {
     quote_card(catalogue, book, labels, card, ask, k)
 }
@@ -177,8 +177,8 @@ fn recheck_card<M: Measure>(
     card: usize,
     k: usize,
 ) -> Result<Option<Route<M>>, Refusal>
-    ensures outcome { Rechecked M.Measure.kind (network-of catalogue.now) (book-of book.old) labels.old card k result (book-of book.new) labels.new }
-    ensures places { Same-places book.old book.new }
+    ensures outcome { Rechecked M.Measure.kind (network_of catalogue.now) (book_of book.old) labels.old card k result (book_of book.new) labels.new }
+    ensures places { SamePlaces book.old book.new }
 {
     check_sites(catalogue, &*book)?;
     let Card { ask, answer, mark } = check_recheck(catalogue, &*book, labels.len(), card, k)?;
@@ -204,8 +204,8 @@ pub fn recheck<M: Measure>(
     card: usize,
     k: usize,
 ) -> Result<Option<Route<M>>, Refusal>
-    ensures outcome { Rechecked M.Measure.kind (network-of catalogue.now) (book-of book.old) labels.old card k result (book-of book.new) labels.new }
-    ensures places { Same-places book.old book.new }
+    ensures outcome { Rechecked M.Measure.kind (network_of catalogue.now) (book_of book.old) labels.old card k result (book_of book.new) labels.new }
+    ensures places { SamePlaces book.old book.new }
 {
     recheck_card(catalogue, book, labels, card, k)
 }

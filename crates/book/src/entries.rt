@@ -1,12 +1,12 @@
 //! The calls on one card that need no catalogue.
 ghost use Rattle.std.specs.Prelude.{◌≡◌, ◌+◌, ◌≤◌, [], length, nat_lt};
 ghost use Rattle.std.proofs.Math.Seq.{paste};
-ghost use Rattle.report.specs.Refusals.{topmost, unless, filled-or};
+ghost use Rattle.report.specs.Refusals.{topmost, unless, filled_or};
 ghost use Rattle.report.specs.declared.Refusal.TheVariants.{CardEmpty};
 ghost use Rattle.catalogue.specs.Places.{at};
 ghost use Rattle.routing.specs.Searching.{row_of};
-ghost use Rattle.cards.specs.Calls.{discard-causes, Discarded, Shown};
-ghost use Rattle.book.specs.Stores.{book-of, Same-places};
+ghost use Rattle.cards.specs.Calls.{discard_causes, Discarded, Shown};
+ghost use Rattle.book.specs.Stores.{book_of, SamePlaces};
 
 use crate::{QuoteBook, front, row_of, write_place};
 use cards::Card;
@@ -20,7 +20,7 @@ pub(crate) fn filled<M: Copy, L: Copy>(
     book: &QuoteBook<'_, M, L>,
     card: usize,
 ) -> Result<Card<M, L>, Refusal>
-    ensures { result ≡ unless (topmost (discard-causes (book-of book.now) card)) (filled-or CardEmpty (at book.now.cards.now card)) }
+    ensures { result ≡ unless (topmost (discard_causes (book_of book.now) card)) (filled_or CardEmpty (at book.now.cards.now card)) }
 {
     if card >= book.cards.len() {
         return Err(Refusal::NoSuchCard);
@@ -41,8 +41,8 @@ fn clear_row(rows: &mut [u16], start: usize, width: usize)
 }
 
 fn empty_card<M: Copy, L: Copy>(book: &mut QuoteBook<'_, M, L>, card: usize) -> Result<(), Refusal>
-    ensures outcome { Discarded (book-of book.old) card result (book-of book.new) }
-    ensures places { Same-places book.old book.new }
+    ensures outcome { Discarded (book_of book.old) card result (book_of book.new) }
+    ensures places { SamePlaces book.old book.new }
 {
     filled(&*book, card)?;
     let width = book.width();
@@ -54,8 +54,8 @@ fn empty_card<M: Copy, L: Copy>(book: &mut QuoteBook<'_, M, L>, card: usize) -> 
 
 // Empties the card's place, and zeros its row.
 pub fn discard<M: Copy, L: Copy>(book: &mut QuoteBook<'_, M, L>, card: usize) -> Result<(), Refusal>
-    ensures outcome { Discarded (book-of book.old) card result (book-of book.new) }
-    ensures places { Same-places book.old book.new }
+    ensures outcome { Discarded (book_of book.old) card result (book_of book.new) }
+    ensures places { SamePlaces book.old book.new }
 {
     empty_card(book, card)
 }
@@ -82,7 +82,7 @@ fn show_card<M: Copy, L: Copy>(
     reply: &mut [u16],
     start: usize,
 ) -> Result<(Mark, Option<Route<M>>), Refusal>
-    ensures { Shown (book-of book.now) card start reply.old result reply.new }
+    ensures { Shown (book_of book.now) card start reply.old result reply.new }
 {
     let it = filled(book, card)?;
     let legs = leg_count(it.answer);
@@ -101,7 +101,7 @@ pub fn read<M: Copy, L: Copy>(
     reply: &mut [u16],
     start: usize,
 ) -> Result<(Mark, Option<Route<M>>), Refusal>
-    ensures { Shown (book-of book.now) card start reply.old result reply.new }
+    ensures { Shown (book_of book.now) card start reply.old result reply.new }
 {
     show_card(book, card, reply, start)
 }

@@ -1,9 +1,9 @@
 //! The quote book: cards with the best routes for what was asked, the calls on one card, and the marking of all cards by news of a link.
 ghost use Rattle.std.specs.Prelude.{◌≡◌, ◌+◌, ◌*◌, ◌<◌, ◌≤◌, length, take, slice_set};
 ghost use Rattle.catalogue.specs.Places.{at};
-ghost use Rattle.cards.specs.Books.{book-size-answer, opened-book, row_at};
+ghost use Rattle.cards.specs.Books.{book_size_answer, opened_book, row_at};
 ghost use Rattle.cards.specs.Doubts.{uses};
-ghost use Rattle.book.specs.Stores.{row-width, book-of, Begins};
+ghost use Rattle.book.specs.Stores.{row_width, book_of, Begins};
 
 use cards::Card;
 use catalogue::{empty_all, read_place};
@@ -29,7 +29,7 @@ pub struct QuoteBook<'a, M, L> {
 
 // Whether a quote book of this size may be opened: 1 to 256 card places, and one row number for each card place and site.
 pub fn check_book_size(sites: usize, cards: usize, rows: usize) -> Result<(), Refusal>
-    ensures { result ≡ book-size-answer sites cards rows }
+    ensures { result ≡ book_size_answer sites cards rows }
 {
     if cards < 1 || 256 < cards || cards.checked_mul(sites) != Some(rows) {
         return Err(Refusal::QuoteBookSize);
@@ -39,7 +39,7 @@ pub fn check_book_size(sites: usize, cards: usize, rows: usize) -> Result<(), Re
 
 // How many numbers a card's row has: one for each site, and none where the rows are of another size.
 fn row_width(sites: usize, cards: usize, rows: usize) -> usize
-    ensures value { result ≡ row-width sites cards rows }
+    ensures value { result ≡ row_width sites cards rows }
     ensures fits { cards * result ≤ rows }
 {
     if cards.checked_mul(sites) == Some(rows) {
@@ -88,8 +88,8 @@ fn emptied_book<'a, M: Measure>(
     rows: &'a mut [u16],
     sites: usize,
 ) -> QuoteBook<'a, M, M::Limit>
-    ensures book { book-of result ≡ opened-book (row-width sites (length cards.old) (length rows.old)) (length cards.old) rows.old }
-    ensures begins { Begins M.Measure.kind sites (length cards.old) (length rows.old) (book-of result) }
+    ensures book { book_of result ≡ opened_book (row_width sites (length cards.old) (length rows.old)) (length cards.old) rows.old }
+    ensures begins { Begins M.Measure.kind sites (length cards.old) (length rows.old) (book_of result) }
     ensures same_cards { result.cards.ghost_name ≡ cards.entry.ghost_name }
     ensures same_rows { result.rows.ghost_name ≡ rows.entry.ghost_name }
 {
@@ -104,8 +104,8 @@ impl<'a, M: Measure> QuoteBook<'a, M, M::Limit> {
         rows: &'a mut [u16],
         sites: usize,
     ) -> QuoteBook<'a, M, M::Limit>
-        ensures book { book-of result ≡ opened-book (row-width sites (length cards.old) (length rows.old)) (length cards.old) rows.old }
-        ensures begins { Begins M.Measure.kind sites (length cards.old) (length rows.old) (book-of result) }
+        ensures book { book_of result ≡ opened_book (row_width sites (length cards.old) (length rows.old)) (length cards.old) rows.old }
+        ensures begins { Begins M.Measure.kind sites (length cards.old) (length rows.old) (book_of result) }
         ensures same_cards { result.cards.ghost_name ≡ cards.entry.ghost_name }
         ensures same_rows { result.rows.ghost_name ≡ rows.entry.ghost_name }
     {
@@ -116,7 +116,7 @@ impl<'a, M: Measure> QuoteBook<'a, M, M::Limit> {
 impl<M: Copy, L: Copy> QuoteBook<'_, M, L> {
     // How many numbers a card's row has.
     fn width(&self) -> usize
-        ensures value { result ≡ (book-of self.now).width }
+        ensures value { result ≡ (book_of self.now).width }
         ensures fits { length self.now.cards.now * result ≤ length self.now.rows.now }
     {
         row_width(self.sites, self.cards.len(), self.rows.len())
@@ -125,15 +125,15 @@ impl<M: Copy, L: Copy> QuoteBook<'_, M, L> {
     // Where the card's row begins.
     fn row_start(&self, card: usize) -> usize
         requires { card < length self.now.cards.now }
-        ensures value { result ≡ card * (book-of self.now).width }
-        ensures fits { result + (book-of self.now).width ≤ length self.now.rows.now }
+        ensures value { result ≡ card * (book_of self.now).width }
+        ensures fits { result + (book_of self.now).width ≤ length self.now.rows.now }
     {
         card * self.width()
     }
 }
 
 impl<M: Copy, L: Copy> Cards<M, L> for QuoteBook<'_, M, L> {
-    ghost book = { book-of };
+    ghost book = { book_of };
 
     fn card(&self, place: usize) -> Option<Card<M, L>> {
         read_place(self.cards, place)

@@ -1,10 +1,10 @@
 //! News of the catalogue's links goes from card to card.
 ghost use Rattle.std.specs.Prelude.{◌≡◌, ◌<◌, length, slice_set};
 ghost use Rattle.catalogue.specs.Places.{at};
-ghost use Rattle.cards.specs.Books.{with-cards};
+ghost use Rattle.cards.specs.Books.{with_cards};
 ghost use Rattle.cards.specs.Doubts.{lapsed, fell, strikes, Doubted};
-ghost use Rattle.doubt.specs.News.{rule-of};
-ghost use Rattle.book.specs.Stores.{book-of};
+ghost use Rattle.doubt.specs.News.{rule_of};
+ghost use Rattle.book.specs.Stores.{book_of};
 
 use crate::QuoteBook;
 use doubt::{Cards, News, after_news, is_struck};
@@ -13,8 +13,8 @@ use measure::Measure;
 // Marks the card at the place where the news strikes it, and answers whether it went from standing to doubtful.
 fn mark_card<M: Measure>(book: &mut QuoteBook<'_, M, M::Limit>, place: usize, news: News<M>) -> bool
     requires { place < length book.old.cards.now }
-    ensures cards { book.new.cards.now ≡ slice_set book.old.cards.now place (lapsed (strikes (rule-of M.Measure.kind news) (book-of book.old) place) (at book.old.cards.now place)) }
-    ensures fell { result ≡ fell (strikes (rule-of M.Measure.kind news) (book-of book.old) place) (at book.old.cards.now place) }
+    ensures cards { book.new.cards.now ≡ slice_set book.old.cards.now place (lapsed (strikes (rule_of M.Measure.kind news) (book_of book.old) place) (at book.old.cards.now place)) }
+    ensures fell { result ≡ fell (strikes (rule_of M.Measure.kind news) (book_of book.old) place) (at book.old.cards.now place) }
     ensures rows { book.new.rows.now ≡ book.old.rows.now }
     ensures sites { book.new.sites ≡ book.old.sites }
     ensures same_cards { book.new.cards.ghost_name ≡ book.old.cards.ghost_name }
@@ -29,8 +29,8 @@ fn mark_card<M: Measure>(book: &mut QuoteBook<'_, M, M::Limit>, place: usize, ne
 
 // Marks every card that the news strikes, and answers how many went from standing to doubtful.
 pub fn spread<M: Measure>(book: &mut QuoteBook<'_, M, M::Limit>, news: News<M>) -> usize
-    ensures doubted { Doubted (rule-of M.Measure.kind news) (book-of book.old) book.new.cards.now result }
-    ensures book { book-of book.new ≡ with-cards (book-of book.old) book.new.cards.now }
+    ensures doubted { Doubted (rule_of M.Measure.kind news) (book_of book.old) book.new.cards.now result }
+    ensures book { book_of book.new ≡ with_cards (book_of book.old) book.new.cards.now }
     ensures same_cards { book.new.cards.ghost_name ≡ book.old.cards.ghost_name }
     ensures same_rows { book.new.rows.ghost_name ≡ book.old.rows.ghost_name }
 {

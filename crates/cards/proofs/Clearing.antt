@@ -7,8 +7,8 @@ use Rattle.report.specs.Refusals.{topmost}
 pub some_same : {A : Type 0} {a b : A} → Some a ≡ Some b → a ≡ b
 some_same e = cc
 
-pub none-some : {A : Type 0} {a : A} → None ≡ Some a → ⊥
-none-some e = both_ways false refl (ap is_some e)
+pub none_some : {A : Type 0} {a : A} → None ≡ Some a → ⊥
+none_some e = both_ways false refl (ap is_some e)
 
 pub none_of : {A : Type 0} (o : Option A) → is_some o ≡ false → o ≡ None
 none_of None e = refl
@@ -19,16 +19,16 @@ abbrev pub Each : (Bool × Refusal → Type 0) → List (Bool × Refusal) → Ty
 Each P [] = Unit {0}
 Each P (c ∷ cs) = P c × Each P cs
 
-cond-none : {A : Type 0} (b : Bool) (x : A) (t : Option A) → cond b (Some x) t ≡ None → (b ≡ false) × (t ≡ None)
-cond-none true x t e = absurd (none-some (sym e))
-cond-none false x t e = (refl, e)
+cond_none : {A : Type 0} (b : Bool) (x : A) (t : Option A) → cond b (Some x) t ≡ None → (b ≡ false) × (t ≡ None)
+cond_none true x t e = absurd (none_some (sym e))
+cond_none false x t e = (refl, e)
 
 -- no cause holds where none is reported
 pub cleared : (cs : List (Bool × Refusal)) → topmost cs ≡ None → Each (λ c. c.0 ≡ false) cs
 cleared [] e = tt
-cleared (c ∷ cs) e = let h = cond-none c.0 c.1 (topmost cs) e in (h.0, cleared cs h.1)
+cleared (c ∷ cs) e = let h = cond_none c.0 c.1 (topmost cs) e in (h.0, cleared cs h.1)
 
 -- what passes of every cause passes of the one that is reported
 pub reported : (P : Refusal → Type 0) (cs : List (Bool × Refusal)) (why : Refusal) → Each (λ c. P c.1) cs → topmost cs ≡ Some why → P why
-reported P [] why all e = absurd (none-some e)
+reported P [] why all e = absurd (none_some e)
 reported P (c ∷ cs) why all e = cond_both c.0 (Some c.1) (topmost cs) (λ o. o ≡ Some why → P why) (λ on h. subst P (some_same h) all.0) (λ off. reported P cs why all.1) e

@@ -21,32 +21,32 @@ use Rattle.cards.specs.declared.Card.{Card}
 use Rattle.cards.specs.declared.Call.{Call}
 use Rattle.cards.specs.declared.Reply.{Reply}
 use Rattle.cards.specs.declared.Reply.TheVariants.{Counted, Held, Refused}
-use Rattle.cards.specs.Books.{Network, Book, opened-network, row_at, leg-count, legs-in, legs-at}
-use Rattle.cards.specs.Calls.{offer-causes, change-causes, withdraw-causes, quote-causes, recheck-causes, discard-causes, legs-of, read-causes}
-use Rattle.cards.specs.Calls.{offer-refused, offered, Changed, change-refused, changed, withdraw-refused, withdrawn}
-use Rattle.cards.specs.Calls.{quote-refused, quote-full, quoted, recheck-refused, still-standing, recheck-full, rechecked, discard-refused, discarded, Shown, read-refused, shown}
-use Rattle.cards.specs.Runs.{Memory, Lent, Outcome, by-offer, by-change, by-withdrawal, by-quote, by-recheck, by-discard, by-reading, counted, showing, Event, event, present, asked, Sought, sought-by, sought, Happened, opened, and_then, Reads, Promised, Continues}
-use Rattle.cards.proofs.Clearing.{none-some, Each, cleared, reported}
+use Rattle.cards.specs.Books.{Network, Book, opened_network, row_at, leg_count, legs_in, legs_at}
+use Rattle.cards.specs.Calls.{offer_causes, change_causes, withdraw_causes, quote_causes, recheck_causes, discard_causes, legs_of, read_causes}
+use Rattle.cards.specs.Calls.{offer_refused, offered, Changed, change_refused, changed, withdraw_refused, withdrawn}
+use Rattle.cards.specs.Calls.{quote_refused, quote_full, quoted, recheck_refused, still_standing, recheck_full, rechecked, discard_refused, discarded, Shown, read_refused, shown}
+use Rattle.cards.specs.Runs.{Memory, Lent, Outcome, by_offer, by_change, by_withdrawal, by_quote, by_recheck, by_discard, by_reading, counted, showing, Event, event, present, asked, Sought, sought_by, sought, Happened, opened, and_then, Reads, Promised, Continues}
+use Rattle.cards.proofs.Clearing.{none_some, Each, cleared, reported}
 use Rattle.cards.proofs.Rows.{pasted}
 use Rattle.cards.proofs.Standing.{Stands, best_of}
-use Rattle.cards.proofs.Keeping.{Filed, Kept, After, right, offer-keeps, change-keeps, withdraw-keeps, quote-keeps, recheck-keeps, discard-keeps, read_keeps}
+use Rattle.cards.proofs.Keeping.{Filed, Kept, After, right, offer_keeps, change_keeps, withdraw_keeps, quote_keeps, recheck_keeps, discard_keeps, read_keeps}
 
 -- Every run keeps what is true.
 module _ {V L : Type 0} {K : Kind V L} (laws : Laws K) where
   step : {catalogue : List (Option (Link V))} {ask : ℕ → Option (Ask L)} {m m' : Memory V L} {l l' : Lent V} {call : Call V L} {reply : Reply V} →
       Kept K catalogue ask m.network m.book → Outcome K m l call reply m' l' → After K catalogue ask call reply m'.network m'.book
-  step kept (by-offer o) = offer-keeps laws kept o
-  step kept (by-change o) = change-keeps laws kept o
-  step kept (by-withdrawal o) = withdraw-keeps laws kept o
-  step kept (by-quote o) = quote-keeps laws kept o
-  step kept (by-recheck o) = recheck-keeps laws kept o
-  step kept (by-discard o) = discard-keeps laws kept o
-  step kept (by-reading o) = read_keeps laws kept o
+  step kept (by_offer o) = offer_keeps laws kept o
+  step kept (by_change o) = change_keeps laws kept o
+  step kept (by_withdrawal o) = withdraw_keeps laws kept o
+  step kept (by_quote o) = quote_keeps laws kept o
+  step kept (by_recheck o) = recheck_keeps laws kept o
+  step kept (by_discard o) = discard_keeps laws kept o
+  step kept (by_reading o) = read_keeps laws kept o
 
-none-at : {A : Type 0} (n c : ℕ) → at {A = A} (replicate n None) c ≡ None
-none-at zero c = refl
-none-at (suc n) zero = refl
-none-at (suc n) (suc c) = none-at n c
+none_at : {A : Type 0} (n c : ℕ) → at {A = A} (replicate n None) c ≡ None
+none_at zero c = refl
+none_at (suc n) zero = refl
+none_at (suc n) (suc c) = none_at n c
 
 opens : (b : Bool) (why : Refusal) → ◌≡◌ {A = Result (Unit {0}) Refusal} (unless (topmost ((b, why) ∷ [])) (Ok tt)) (Ok tt) → b ≡ false
 opens true why e = let z : ◌≡◌ {A = ℕ} 0 1 = cc in absurd (omega arith)
@@ -61,12 +61,12 @@ module _ {V L : Type 0} {K : Kind V L} (laws : Laws K) where
       record {
         links = refl;
         sound = record {
-          sites-few = ltb-false _ _ few.1;
-          places-few = rw length-replicate (ltb-false _ _ size.1);
-          each = λ p s t c has. absurd (none-some (sym (none-at _ p) ∙ has));
+          sites_few = ltb-false _ _ few.1;
+          places_few = rw length-replicate (ltb-false _ _ size.1);
+          each = λ p s t c has. absurd (none_some (sym (none_at _ p) ∙ has));
         };
         rows = eqb-true _ _ (not-false _ book.1) ∙ ap (λ n. n * sites) (sym (length-replicate cards None));
-        cards = λ c. subst (λ o. Filed K (opened-network sites places) None o (row_at sites rows c)) (sym (none-at cards c)) refl;
+        cards = λ c. subst (λ o. Filed K (opened_network sites places) None o (row_at sites rows c)) (sym (none_at cards c)) refl;
       }
   kept (and_then before outcome) = step laws (kept before) outcome
 
@@ -74,14 +74,14 @@ module _ {V L : Type 0} {K : Kind V L} (laws : Laws K) where
 abbrev Plain : List (Bool × Refusal) → Type 0
 Plain = Each (λ c. eqb (number c.1) 16 ≡ false)
 
-abbrev is-refused : {V : Type 0} → Reply V → Bool
-is-refused (Counted count) = false
-is-refused (Held mark answer) = false
-is-refused (Refused why) = true
+abbrev is_refused : {V : Type 0} → Reply V → Bool
+is_refused (Counted count) = false
+is_refused (Held mark answer) = false
+is_refused (Refused why) = true
 
 module _ {V : Type 0} {site : ℕ} where
-  not-refused : (reply : Reply V) → is-refused reply ≡ false → reply ≡ Refused (LabelsFull site) → ⊥
-  not-refused reply calm e = both_ways _ calm (ap is-refused e)
+  not_refused : (reply : Reply V) → is_refused reply ≡ false → reply ≡ Refused (LabelsFull site) → ⊥
+  not_refused reply calm e = both_ways _ calm (ap is_refused e)
 
   not_full : (cs : List (Bool × Refusal)) {why : Refusal} → Plain cs → topmost cs ≡ Some why → ◌≡◌ {A = Reply V} (Refused why) (Refused (LabelsFull site)) → ⊥
   not_full cs {why} plain top e =
@@ -90,47 +90,47 @@ module _ {V : Type 0} {site : ℕ} where
 
 read_plain : {V L : Type 0} {b : Book V L} {card start site : ℕ} {reply reply' : List ℕ} {r : Result (Mark × Option (Route V)) Refusal} →
     Shown b card start reply r reply' → showing {V = V} r ≡ Refused (LabelsFull site) → ⊥
-read_plain {b = b} {card = card} {start = start} {reply = reply} (read-refused why top) e = not_full (read-causes b (length reply) card start) (refl, (refl, (refl, tt))) top e
-read_plain (shown it top here) e = not-refused _ refl e
+read_plain {b = b} {card = card} {start = start} {reply = reply} (read_refused why top) e = not_full (read_causes b (length reply) card start) (refl, (refl, (refl, tt))) top e
+read_plain (shown it top here) e = not_refused _ refl e
 
 -- what was sought, and that the site has too many walks to hold
 abbrev Over : {V L : Type 0} → Kind V L → List (Option (Link V)) → Option (Sought L) → ℕ → Type 0
 Over {L = L} K links sought site = (goal : Sought L) × (sought ≡ Some goal) × Crowded K goal.ask.limit (Holds links) goal.k goal.ask.source site
 
 module _ {V L : Type 0} {K : Kind V L} where
-  change-plain : {n : Network V} {b : Book V L} {place : ℕ} {value : V} {r : Result ℕ Refusal} {n' : Network V} {b' : Book V L} {site : ℕ} →
+  change_plain : {n : Network V} {b : Book V L} {place : ℕ} {value : V} {r : Result ℕ Refusal} {n' : Network V} {b' : Book V L} {site : ℕ} →
       Changed K n b place value r n' b' → counted {V = V} r ≡ Refused (LabelsFull site) → ⊥
-  change-plain {n} {b = b} {place = place} {value = value} (change-refused why top) e =
-      not_full (change-causes K n b place value) (refl, (refl, (refl, (refl, tt)))) top e
-  change-plain (changed old count cards top here d) e = not-refused _ refl e
+  change_plain {n} {b = b} {place = place} {value = value} (change_refused why top) e =
+      not_full (change_causes K n b place value) (refl, (refl, (refl, (refl, tt)))) top e
+  change_plain (changed old count cards top here d) e = not_refused _ refl e
 
   full_at : (before : List (Event V L)) {catalogue : List (Option (Link V))} {m m' : Memory V L} {l l' : Lent V} {call : Call V L} {reply : Reply V} (site : ℕ) →
       Kept K catalogue (λ c. asked c before) m.network m.book → Outcome K m l call reply m' l' → reply ≡ Refused (LabelsFull site) →
       Over K m.network.links (sought before call) site
-  full_at before {m = m} site now (by-offer {place = place} {link = link} (offer-refused why top)) e =
-      absurd (not_full (offer-causes K m.network m.book place link) (refl, (refl, (refl, (refl, (refl, (refl, tt)))))) top e)
-  full_at before site now (by-offer (offered count cards top d)) e = absurd (not-refused _ refl e)
-  full_at before site now (by-change o) e = absurd (change-plain o e)
-  full_at before {m = m} site now (by-withdrawal {place = place} (withdraw-refused why top)) e =
-      absurd (not_full (withdraw-causes m.network m.book place) (refl, (refl, (refl, tt))) top e)
-  full_at before site now (by-withdrawal (withdrawn count cards top d)) e = absurd (not-refused _ refl e)
-  full_at before {m = m} {l = l} site now (by-quote {card = card} {k = k} {ask = ask} (quote-refused why top)) e =
-      absurd (not_full (quote-causes K m.network m.book (length l.labels) card ask k) (refl, (refl, (refl, (refl, (refl, (refl, tt)))))) top e)
-  full_at before {m = m} site now (by-quote {k = k} {ask = ask} (quote-full there labels' top crowded free)) e =
+  full_at before {m = m} site now (by_offer {place = place} {link = link} (offer_refused why top)) e =
+      absurd (not_full (offer_causes K m.network m.book place link) (refl, (refl, (refl, (refl, (refl, (refl, tt)))))) top e)
+  full_at before site now (by_offer (offered count cards top d)) e = absurd (not_refused _ refl e)
+  full_at before site now (by_change o) e = absurd (change_plain o e)
+  full_at before {m = m} site now (by_withdrawal {place = place} (withdraw_refused why top)) e =
+      absurd (not_full (withdraw_causes m.network m.book place) (refl, (refl, (refl, tt))) top e)
+  full_at before site now (by_withdrawal (withdrawn count cards top d)) e = absurd (not_refused _ refl e)
+  full_at before {m = m} {l = l} site now (by_quote {card = card} {k = k} {ask = ask} (quote_refused why top)) e =
+      absurd (not_full (quote_causes K m.network m.book (length l.labels) card ask k) (refl, (refl, (refl, (refl, (refl, (refl, tt)))))) top e)
+  full_at before {m = m} site now (by_quote {k = k} {ask = ask} (quote_full there labels' top crowded free)) e =
       let same : there ≡ site = cc in
       (record { ask = ask; k = k }, refl, subst (Crowded K ask.limit (Holds m.network.links) k ask.source) same crowded)
-  full_at before site now (by-quote (quoted answer legs labels' top found free)) e = absurd (not-refused _ refl e)
-  full_at before {m = m} {l = l} site now (by-recheck {card = card} {k = k} (recheck-refused why top)) e =
-      absurd (not_full (recheck-causes K m.network m.book (length l.labels) card k) (refl, (refl, (refl, (refl, (refl, (refl, tt)))))) top e)
-  full_at before site now (by-recheck (still-standing it top here stands)) e = absurd (not-refused _ refl e)
-  full_at before {m = m} site now (by-recheck {card = card} {k = k} (recheck-full it there labels' top here doubtful crowded free)) e =
+  full_at before site now (by_quote (quoted answer legs labels' top found free)) e = absurd (not_refused _ refl e)
+  full_at before {m = m} {l = l} site now (by_recheck {card = card} {k = k} (recheck_refused why top)) e =
+      absurd (not_full (recheck_causes K m.network m.book (length l.labels) card k) (refl, (refl, (refl, (refl, (refl, (refl, tt)))))) top e)
+  full_at before site now (by_recheck (still_standing it top here stands)) e = absurd (not_refused _ refl e)
+  full_at before {m = m} site now (by_recheck {card = card} {k = k} (recheck_full it there labels' top here doubtful crowded free)) e =
       let same : there ≡ site = cc in
-      (record { ask = it.ask; k = k }, ap (sought-by k) (right now card it here).asked, subst (Crowded K it.ask.limit (Holds m.network.links) k it.ask.source) same crowded)
-  full_at before site now (by-recheck (rechecked it answer legs labels' top here doubtful found free)) e = absurd (not-refused _ refl e)
-  full_at before {m = m} site now (by-discard {card = card} (discard-refused why top)) e =
-      absurd (not_full (discard-causes m.book card) (refl, (refl, tt)) top e)
-  full_at before site now (by-discard (discarded top)) e = absurd (not-refused _ refl e)
-  full_at before site now (by-reading o) e = absurd (read_plain o e)
+      (record { ask = it.ask; k = k }, ap (sought_by k) (right now card it here).asked, subst (Crowded K it.ask.limit (Holds m.network.links) k it.ask.source) same crowded)
+  full_at before site now (by_recheck (rechecked it answer legs labels' top here doubtful found free)) e = absurd (not_refused _ refl e)
+  full_at before {m = m} site now (by_discard {card = card} (discard_refused why top)) e =
+      absurd (not_full (discard_causes m.book card) (refl, (refl, tt)) top e)
+  full_at before site now (by_discard (discarded top)) e = absurd (not_refused _ refl e)
+  full_at before site now (by_reading o) e = absurd (read_plain o e)
 
   -- an earlier part of a history happened too
   earlier : {places : ℕ} (later before : List (Event V L)) {m : Memory V L} → Happened K places (later ++ before) m → (then : Memory V L) × Happened K places before then
@@ -145,18 +145,18 @@ module _ {V L : Type 0} {K : Kind V L} where
 abbrev Told : {V L : Type 0} → Book V L → ℕ → ℕ → List ℕ → List ℕ → Result (Mark × Option (Route V)) Refusal → Type 0
 Told b card start reply reply' (Err why) = Unit {0}
 Told {V} {L} b card start reply reply' (Ok held) =
-    (it : Card V L) × (at b.cards card ≡ Some it) × (it.mark ≡ held.0) × (it.answer ≡ held.1) × (start + leg-count it.answer ≤ length reply)
-    × (reply' ≡ paste reply start (legs-at b card it.answer) (length (legs-at b card it.answer)))
+    (it : Card V L) × (at b.cards card ≡ Some it) × (it.mark ≡ held.0) × (it.answer ≡ held.1) × (start + leg_count it.answer ≤ length reply)
+    × (reply' ≡ paste reply start (legs_at b card it.answer) (length (legs_at b card it.answer)))
 
 told : {V L : Type 0} {b : Book V L} {card start : ℕ} {reply reply' : List ℕ} {r : Result (Mark × Option (Route V)) Refusal} → Shown b card start reply r reply' → Told b card start reply reply' r
-told (read-refused why top) = tt
+told (read_refused why top) = tt
 told {b = b} {card = card} {start = start} {reply = reply} (shown it top here) =
-    (it, here, refl, refl, ltb-false _ _ (rw here at (cleared (read-causes b (length reply) card start) top).1.1.0), refl)
+    (it, here, refl, refl, ltb-false _ _ (rw here at (cleared (read_causes b (length reply) card start) top).1.1.0), refl)
 
 -- a standing card has as many legs in its row as its answer says
-own-count : {V L : Type 0} {K : Kind V L} {links : List (Option (Link V))} {ask : Ask L} (row : List ℕ) (answer : Option (Route V)) → Stands K links ask answer (legs-in row answer) → leg-count answer ≡ length (legs-in row answer)
-own-count row None st = refl
-own-count row (Some route) st = st.own.count
+own_count : {V L : Type 0} {K : Kind V L} {links : List (Option (Link V))} {ask : Ask L} (row : List ℕ) (answer : Option (Route V)) → Stands K links ask answer (legs_in row answer) → leg_count answer ≡ length (legs_in row answer)
+own_count row None st = refl
+own_count row (Some route) st = st.own.count
 
 module _ {V L : Type 0} {K : Kind V L} {catalogue : List (Option (Link V))} {ask : ℕ → Option (Ask L)} (m : Memory V L) (now : Kept K catalogue ask m.network m.book) where
   -- what is read of a standing card is so
@@ -165,10 +165,10 @@ module _ {V L : Type 0} {K : Kind V L} {catalogue : List (Option (Link V))} {ask
       let (it, here, stands, same, room, left) = told reading in
       let f = right now card it here in
       let st = f.stands stands in
-      let own = legs-at m.book card it.answer in
-      let count = own-count (row_at m.book.width m.book.rows card) it.answer st in
+      let own = legs_at m.book card it.answer in
+      let count = own_count (row_at m.book.width m.book.rows card) it.answer st in
       let back : legs ≡ own =
-      e ∙ ap (λ a. take (leg-count a) (drop start reply')) (sym same) ∙ ap (λ xs. take (leg-count it.answer) (drop start xs)) left
+      e ∙ ap (λ a. take (leg_count a) (drop start reply')) (sym same) ∙ ap (λ xs. take (leg_count it.answer) (drop start xs)) left
       ∙ ap (λ k. take k (drop start (paste reply start own (length own)))) count ∙ pasted (length own) start reply own (omega arith) refl in (
         it.ask,
         f.asked,
@@ -177,18 +177,18 @@ module _ {V L : Type 0} {K : Kind V L} {catalogue : List (Option (Link V))} {ask
       )
 
   -- a card that was asked something can be read
-  readable-at : (card : ℕ) (it : Ask L) → ask card ≡ Some it → (mark : Mark) × (answer : Option (Route V)) × (legs : List ℕ) × Reads m card mark answer legs
-  readable-at card it was = go (at m.book.cards card) refl (now.cards card)
+  readable_at : (card : ℕ) (it : Ask L) → ask card ≡ Some it → (mark : Mark) × (answer : Option (Route V)) × (legs : List ℕ) × Reads m card mark answer legs
+  readable_at card it was = go (at m.book.cards card) refl (now.cards card)
     where
       go : (o : Option (Card V L)) → at m.book.cards card ≡ o → Filed K m.network (ask card) o (row_at m.book.width m.book.rows card) →
           (mark : Mark) × (answer : Option (Route V)) × (legs : List ℕ) × Reads m card mark answer legs
-      go None here f = absurd (none-some (sym f ∙ was))
+      go None here f = absurd (none_some (sym f ∙ was))
       go (Some c) here f =
-          let reply = replicate (leg-count c.answer) 0 in
+          let reply = replicate (leg_count c.answer) 0 in
           let inside : card < length m.book.cards =
-          ⊎_elim (λ lt. lt) (λ past. absurd (none-some (sym (get_or_past m.book.cards card None past) ∙ here))) (cases_lt card (length m.book.cards)) in
-          let fit : 0 + legs-of (at m.book.cards card) ≤ length reply = rw (here, length-replicate) (omega arith) in
-          let free : topmost (read-causes m.book (length reply) card 0) ≡ None =
+          ⊎_elim (λ lt. lt) (λ past. absurd (none_some (sym (get_or_past m.book.cards card None past) ∙ here))) (cases_lt card (length m.book.cards)) in
+          let fit : 0 + legs_of (at m.book.cards card) ≤ length reply = rw (here, length-replicate) (omega arith) in
+          let free : topmost (read_causes m.book (length reply) card 0) ≡ None =
           cond-false _ _ _ (lt-leb _ _ inside) ∙ cond-false _ _ _ (ap (λ o. not (is_some o)) here) ∙ cond-false _ _ _ (le-ltb _ _ fit) in
           (c.mark, c.answer, _, (0, reply, _, shown c free here, refl))
 
@@ -202,7 +202,7 @@ promise {K = K} laws places history m happened = record {
       let (then, l, l', first, outcome) = latest (event call (Refused (LabelsFull site))) before h in
       let past = kept laws first in
       subst (λ links. Over K links (sought before call) site) past.links (full_at before site past outcome refl);
-  readable = readable-at m now;
+  readable = readable_at m now;
 }
   where
     now : Kept K (present places history) (λ c. asked c history) m.network m.book

@@ -8,8 +8,8 @@ use Rattle.routing.specs.Searching.{row_of}
 use Rattle.cards.specs.Books.{row_at}
 
 -- a row has its length where the legs have room in it
-pub row-length : (legs : List ℕ) (n : ℕ) → length legs ≤ n → length (row_of legs n) ≡ n
-row-length legs n h = simp (length-append, length-replicate) (omega arith)
+pub row_length : (legs : List ℕ) (n : ℕ) → length legs ≤ n → length (row_of legs n) ≡ n
+row_length legs n h = simp (length-append, length-replicate) (omega arith)
 
 -- the row of a card ends within the rows
 pub row_within : (card width cards places : ℕ) → card < cards → places ≡ cards * width → card * width + width ≤ places
@@ -47,9 +47,9 @@ ways s card k ne =
     (λ le. inr (row_within card s k (k * s) (omega arith) refl)) (cases_lt k card)
 
 -- when a card's row is written, the other rows are as they were, and its own is what was written
-pub other-rows : (s card k : ℕ) (rows row : List ℕ) → card * s + s ≤ length rows → length row ≡ s → (k ≡ card → ⊥) →
+pub other_rows : (s card k : ℕ) (rows row : List ℕ) → card * s + s ≤ length rows → length row ≡ s → (k ≡ card → ⊥) →
     row_at s (paste rows (card * s) row s) k ≡ row_at s rows k
-other-rows s card k rows row fits e ne = apart s (card * s) (k * s) rows row fits e (ways s card k ne)
+other_rows s card k rows row fits e ne = apart s (card * s) (k * s) rows row fits e (ways s card k ne)
 
 pub own_row : (s card : ℕ) (rows row : List ℕ) → card * s + s ≤ length rows → length row ≡ s →
     row_at s (paste rows (card * s) row s) card ≡ row

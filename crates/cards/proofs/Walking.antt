@@ -1,16 +1,16 @@
 -- Walks when a link comes, goes or gets another value.
 use Rattle.std.proofs.Common.{◌≡◌, ℕ, ◌<◌, false, ◌⊎◌, List, [], ◌∷◌, length, set, Some, None, Option, sym, refl, ◌∙◌, subst, inl, inr, ⊎_elim, length-set, get_or-set_other, get_or-set_same}
 use Rattle.std.proofs.lemmas.Bool.{cases_eq, or_parts, or_from, eqb-false, ne_eqb}
-use Rattle.measure.specs.Kind.{Kind, Made, made-join}
+use Rattle.measure.specs.Kind.{Kind, Made, made_join}
 use Rattle.measure.specs.Laws.{Laws}
 use Rattle.measure.specs.Ranks.{Is}
 use Rattle.catalogue.specs.declared.Link.{Link}
 use Rattle.catalogue.specs.Places.{at}
 use Rattle.catalogue.specs.Walks.{Holds, extend, Goes}
 use Rattle.catalogue.specs.Routes.{Sound, SoundLink}
-use Rattle.labels.proofs.Cover.{goes-made, goes-dom}
+use Rattle.labels.proofs.Cover.{goes_made, goes_dom}
 use Rattle.cards.specs.Doubts.{uses}
-use Rattle.cards.proofs.Clearing.{none-some}
+use Rattle.cards.proofs.Clearing.{none_some}
 
 -- a walk that does not use a place is still one, where every other link is still there
 pub goes_on : {V L : Type 0} (K : Kind V L) (Has After : ℕ → ℕ → ℕ → V → Type 0) (place : ℕ) →
@@ -31,13 +31,13 @@ module _ {V L : Type 0} {K : Kind V L} (laws : Laws K) (Has After : ℕ → ℕ 
   goes_back [] s t v v' w mv mv' d g = inl (v, (g.0, refl), subst (λ y. Is (K.dominates v y)) g.1 d)
   goes_back (p ∷ ps) s t v v' w mv mv' d (u, c, has, g) =
       let mc = made' p s u c has in
-      let mj = made-join mv' mc in
+      let mj = made_join mv' mc in
       ⊎_elim
       (λ x. let b = x.0 in
       let mb = made p s u b x.1 in
-      let db = laws.dom-trans (extend K v b) (extend K v c) (extend K v' c) (made-join mv mb) (made-join mv mc) mj (laws.join-before b c v mb mc mv x.2) (laws.join-after v v' c mv mv' mc d) in
-      ⊎_elim (λ y. inl (y.0, (u, b, x.1, y.1), y.2)) inr (goes_back ps u t (extend K v b) (extend K v' c) w (made-join mv mb) mj db g))
-      (λ calm. inr (c, calm, mc, laws.dom-trans c (extend K v' c) w mc mj (goes-made laws After made' ps u t (extend K v' c) w mj g) (laws.join-second v' c mv' mc) (goes-dom laws After made' ps u t (extend K v' c) w mj g)))
+      let db = laws.dom_trans (extend K v b) (extend K v c) (extend K v' c) (made_join mv mb) (made_join mv mc) mj (laws.join_before b c v mb mc mv x.2) (laws.join_after v v' c mv mv' mc d) in
+      ⊎_elim (λ y. inl (y.0, (u, b, x.1, y.1), y.2)) inr (goes_back ps u t (extend K v b) (extend K v' c) w (made_join mv mb) mj db g))
+      (λ calm. inr (c, calm, mc, laws.dom_trans c (extend K v' c) w mc mj (goes_made laws After made' ps u t (extend K v' c) w mj g) (laws.join_second v' c mv' mc) (goes_dom laws After made' ps u t (extend K v' c) w mj g)))
       (back p s u c has)
 
 module _ {V : Type 0} (links : List (Option (Link V))) (place : ℕ) where
@@ -45,26 +45,26 @@ module _ {V : Type 0} (links : List (Option (Link V))) (place : ℕ) where
   pub unused : {L : Type 0} (K : Kind V L) → at links place ≡ None → (ps : List ℕ) (s t : ℕ) (v w : V) → Goes K (Holds links) s v ps t w → uses ps place ≡ false
   unused K empty [] s t v w g = refl
   unused K empty (p ∷ ps) s t v w (u, c, has, g) =
-      or_from _ _ (ne_eqb p place (λ e. none-some (sym empty ∙ subst (λ x. Holds links x s u c) e has))) (unused K empty ps u t (extend K v c) w g)
+      or_from _ _ (ne_eqb p place (λ e. none_some (sym empty ∙ subst (λ x. Holds links x s u c) e has))) (unused K empty ps u t (extend K v c) w g)
 
   module _ (y : Option (Link V)) where
-    pub other-holds : (p s t : ℕ) (c : V) → (p ≡ place → ⊥) → Holds links p s t c → Holds (set links place y) p s t c
-    other-holds p s t c ne has = get_or-set_other links place p y None ne ∙ has
+    pub other_holds : (p s t : ℕ) (c : V) → (p ≡ place → ⊥) → Holds links p s t c → Holds (set links place y) p s t c
+    other_holds p s t c ne has = get_or-set_other links place p y None ne ∙ has
 
     -- a link that stands somewhere after a write stood there before, or is what was written
-    pub holds-set : place < length links → (p s t : ℕ) (c : V) → Holds (set links place y) p s t c →
+    pub holds_set : place < length links → (p s t : ℕ) (c : V) → Holds (set links place y) p s t c →
         Holds links p s t c ⊎ ((p ≡ place) × (y ≡ Some (record { start = s; end = t; value = c })))
-    holds-set lt p s t c has =
+    holds_set lt p s t c has =
         ⊎_elim
         (λ e. inr (e, sym (get_or-set_same links place y None lt) ∙ subst (λ x. Holds (set links place y) x s t c) e has))
         (λ ne. inl (sym (get_or-set_other links place p y None ne) ∙ has))
         (cases_eq p place)
 
     -- a sound catalogue is so after a link that may stand in it is written
-    pub sound-set : {L : Type 0} {K : Kind V L} (sites : ℕ) → place < length links → Sound K sites links →
+    pub sound_set : {L : Type 0} {K : Kind V L} (sites : ℕ) → place < length links → Sound K sites links →
         ((s t : ℕ) (c : V) → y ≡ Some (record { start = s; end = t; value = c }) → SoundLink K sites s t c) → Sound K sites (set links place y)
-    sound-set sites lt sound new = record {
-      sites-few = sound.sites-few;
-      places-few = rw length-set sound.places-few;
-      each = λ p s t c has. ⊎_elim (sound.each p s t c) (λ h. new s t c h.1) (holds-set lt p s t c has);
+    sound_set sites lt sound new = record {
+      sites_few = sound.sites_few;
+      places_few = rw length-set sound.places_few;
+      each = λ p s t c has. ⊎_elim (sound.each p s t c) (λ h. new s t c h.1) (holds_set lt p s t c has);
     }

@@ -21,39 +21,39 @@ pub record Book (V L : Type 0) : Type 0 where
   pub rows : List ℕ
 
 -- Opening a quote book: 1 to 256 card places, and one number for each card place and site.
-abbrev pub book-size-answer : ℕ → ℕ → ℕ → Result (Unit {0}) Refusal
-book-size-answer sites cards rows =
+abbrev pub book_size_answer : ℕ → ℕ → ℕ → Result (Unit {0}) Refusal
+book_size_answer sites cards rows =
     unless (topmost ((nat_lt cards 1 || nat_lt 256 cards || not (rows == cards * sites), QuoteBookSize) ∷ [])) (Ok tt)
 
 -- a catalogue and a quote book just opened: all places are empty, and the rows are as they came
-abbrev pub opened-network : {V : Type 0} → ℕ → ℕ → Network V
-opened-network sites places = record { sites = sites; links = replicate places None }
+abbrev pub opened_network : {V : Type 0} → ℕ → ℕ → Network V
+opened_network sites places = record { sites = sites; links = replicate places None }
 
-abbrev pub opened-book : {V L : Type 0} → ℕ → ℕ → List ℕ → Book V L
-opened-book width cards rows = record { width = width; cards = replicate cards None; rows = rows }
+abbrev pub opened_book : {V L : Type 0} → ℕ → ℕ → List ℕ → Book V L
+opened_book width cards rows = record { width = width; cards = replicate cards None; rows = rows }
 
 -- the same with other links, with other cards, and with another card and its row: the legs, then zeros
-abbrev pub with-links : {V : Type 0} → Network V → List (Option (Link V)) → Network V
-with-links n links = record { sites = n.sites; links = links }
+abbrev pub with_links : {V : Type 0} → Network V → List (Option (Link V)) → Network V
+with_links n links = record { sites = n.sites; links = links }
 
-abbrev pub with-cards : {V L : Type 0} → Book V L → List (Option (Card V L)) → Book V L
-with-cards b cards = record { width = b.width; cards = cards; rows = b.rows }
+abbrev pub with_cards : {V L : Type 0} → Book V L → List (Option (Card V L)) → Book V L
+with_cards b cards = record { width = b.width; cards = cards; rows = b.rows }
 
-abbrev pub with-card : {V L : Type 0} → Book V L → ℕ → Option (Card V L) → List ℕ → Book V L
-with-card b c card legs =
+abbrev pub with_card : {V L : Type 0} → Book V L → ℕ → Option (Card V L) → List ℕ → Book V L
+with_card b c card legs =
     record { width = b.width; cards = slice_set b.cards c card; rows = paste b.rows (c * b.width) (row_of legs b.width) b.width }
 
 -- the row of a card, how many legs an answer has, and the legs in a row
 abbrev pub row_at : ℕ → List ℕ → ℕ → List ℕ
 row_at width rows c = take width (drop (c * width) rows)
 
-abbrev pub leg-count : {V : Type 0} → Option (Route V) → ℕ
-leg-count None = 0
-leg-count (Some route) = route.legs
+abbrev pub leg_count : {V : Type 0} → Option (Route V) → ℕ
+leg_count None = 0
+leg_count (Some route) = route.legs
 
-abbrev pub legs-in : {V : Type 0} → List ℕ → Option (Route V) → List ℕ
-legs-in row answer = take (leg-count answer) row
+abbrev pub legs_in : {V : Type 0} → List ℕ → Option (Route V) → List ℕ
+legs_in row answer = take (leg_count answer) row
 
 -- the legs of the card c, where this is its answer
-abbrev pub legs-at : {V L : Type 0} → Book V L → ℕ → Option (Route V) → List ℕ
-legs-at b c answer = legs-in (row_at b.width b.rows c) answer
+abbrev pub legs_at : {V L : Type 0} → Book V L → ℕ → Option (Route V) → List ℕ
+legs_at b c answer = legs_in (row_at b.width b.rows c) answer

@@ -9,17 +9,17 @@ use Rattle.report.specs.declared.Refusal.TheVariants.{SitesDiffer, NoSuchCard, N
 use Rattle.report.specs.Refusals.{topmost}
 use Rattle.catalogue.specs.declared.Link.{Link}
 use Rattle.catalogue.specs.Places.{at}
-use Rattle.catalogue.specs.Calls.{store-causes, replace-causes, remove-causes, revalued}
+use Rattle.catalogue.specs.Calls.{store_causes, replace_causes, remove_causes, revalued}
 use Rattle.catalogue.specs.Walks.{Holds}
 use Rattle.catalogue.specs.Routes.{Sound, Best, Outside, Crowded}
 use Rattle.labels.specs.declared.Label.{Label}
 use Rattle.labels.specs.Labels.{table, Frees}
 use Rattle.routing.specs.declared.Ask.{Ask}
 use Rattle.routing.specs.declared.Route.{Route}
-use Rattle.routing.specs.Searching.{ill-sized}
+use Rattle.routing.specs.Searching.{ill_sized}
 use Rattle.cards.specs.declared.Card.{Card}
-use Rattle.cards.specs.Books.{Network, Book, with-links, with-cards, with-card, leg-count, legs-at}
-use Rattle.cards.specs.Doubts.{Doubted, struck-by-offer, struck-by-change, struck-by-withdrawal}
+use Rattle.cards.specs.Books.{Network, Book, with_links, with_cards, with_card, leg_count, legs_at}
+use Rattle.cards.specs.Doubts.{Doubted, struck_by_offer, struck_by_change, struck_by_withdrawal}
 
 -- Why a call is refused: its causes in the order of their numbers, each with whether it holds. The topmost that holds is reported.
 
@@ -27,56 +27,56 @@ use Rattle.cards.specs.Doubts.{Doubted, struck-by-offer, struck-by-change, struc
 abbrev pub differ : {V L : Type 0} → Network V → Book V L → Bool × Refusal
 differ n b = (not (b.width == n.sites), SitesDiffer)
 
-abbrev pub no-card : {V L : Type 0} → Book V L → ℕ → Bool × Refusal
-no-card b card = (nat_le (length b.cards) card, NoSuchCard)
+abbrev pub no_card : {V L : Type 0} → Book V L → ℕ → Bool × Refusal
+no_card b card = (nat_le (length b.cards) card, NoSuchCard)
 
-abbrev pub card-empty : {V L : Type 0} → Book V L → ℕ → Bool × Refusal
-card-empty b card = (not (is_some (at b.cards card)), CardEmpty)
+abbrev pub card_empty : {V L : Type 0} → Book V L → ℕ → Bool × Refusal
+card_empty b card = (not (is_some (at b.cards card)), CardEmpty)
 
-abbrev pub offer-causes : {V L : Type 0} → Kind V L → Network V → Book V L → ℕ → Link V → List (Bool × Refusal)
-offer-causes K n b place link = differ n b ∷ store-causes K n.sites n.links place link
+abbrev pub offer_causes : {V L : Type 0} → Kind V L → Network V → Book V L → ℕ → Link V → List (Bool × Refusal)
+offer_causes K n b place link = differ n b ∷ store_causes K n.sites n.links place link
 
-abbrev pub change-causes : {V L : Type 0} → Kind V L → Network V → Book V L → ℕ → V → List (Bool × Refusal)
-change-causes K n b place value = differ n b ∷ replace-causes K n.links place value
+abbrev pub change_causes : {V L : Type 0} → Kind V L → Network V → Book V L → ℕ → V → List (Bool × Refusal)
+change_causes K n b place value = differ n b ∷ replace_causes K n.links place value
 
-abbrev pub withdraw-causes : {V L : Type 0} → Network V → Book V L → ℕ → List (Bool × Refusal)
-withdraw-causes n b place = differ n b ∷ remove-causes n.links place
+abbrev pub withdraw_causes : {V L : Type 0} → Network V → Book V L → ℕ → List (Bool × Refusal)
+withdraw_causes n b place = differ n b ∷ remove_causes n.links place
 
 -- an end of what is asked is no site; its limit is not admitted
-abbrev pub ends-out : {V L : Type 0} → Network V → Ask L → Bool
-ends-out n ask = nat_le n.sites ask.source || nat_le n.sites ask.destination
+abbrev pub ends_out : {V L : Type 0} → Network V → Ask L → Bool
+ends_out n ask = nat_le n.sites ask.source || nat_le n.sites ask.destination
 
-abbrev pub limit-out : {V L : Type 0} → Kind V L → Ask L → Bool
-limit-out K ask = not (K.limit-admitted ask.limit)
+abbrev pub limit_out : {V L : Type 0} → Kind V L → Ask L → Bool
+limit_out K ask = not (K.limit_admitted ask.limit)
 
 -- `room` is how many labels the workspace has
-abbrev pub quote-causes : {V L : Type 0} → Kind V L → Network V → Book V L → ℕ → ℕ → Ask L → ℕ → List (Bool × Refusal)
-quote-causes K n b room card ask k =
-    differ n b ∷ no-card b card ∷ (ends-out n ask, NoSuchSite) ∷ (limit-out K ask, LimitNotAdmitted) ∷ (is_some (at b.cards card), CardFilled)
-    ∷ (ill-sized n.sites room k, WorkspaceSize) ∷ []
+abbrev pub quote_causes : {V L : Type 0} → Kind V L → Network V → Book V L → ℕ → ℕ → Ask L → ℕ → List (Bool × Refusal)
+quote_causes K n b room card ask k =
+    differ n b ∷ no_card b card ∷ (ends_out n ask, NoSuchSite) ∷ (limit_out K ask, LimitNotAdmitted) ∷ (is_some (at b.cards card), CardFilled)
+    ∷ (ill_sized n.sites room k, WorkspaceSize) ∷ []
 
 -- a test of what the card at a place was asked, which an empty place does not pass
-abbrev pub of-ask : {V L : Type 0} → (Ask L → Bool) → Option (Card V L) → Bool
-of-ask test None = false
-of-ask test (Some card) = test card.ask
+abbrev pub of_ask : {V L : Type 0} → (Ask L → Bool) → Option (Card V L) → Bool
+of_ask test None = false
+of_ask test (Some card) = test card.ask
 
 -- the card's own ends and limit are looked at again, though they were right when it was filled
-abbrev pub recheck-causes : {V L : Type 0} → Kind V L → Network V → Book V L → ℕ → ℕ → ℕ → List (Bool × Refusal)
-recheck-causes K n b room card k =
-    differ n b ∷ no-card b card ∷ (of-ask (ends-out n) (at b.cards card), NoSuchSite) ∷ (of-ask (limit-out K) (at b.cards card), LimitNotAdmitted)
-    ∷ card-empty b card ∷ (ill-sized n.sites room k, WorkspaceSize) ∷ []
+abbrev pub recheck_causes : {V L : Type 0} → Kind V L → Network V → Book V L → ℕ → ℕ → ℕ → List (Bool × Refusal)
+recheck_causes K n b room card k =
+    differ n b ∷ no_card b card ∷ (of_ask (ends_out n) (at b.cards card), NoSuchSite) ∷ (of_ask (limit_out K) (at b.cards card), LimitNotAdmitted)
+    ∷ card_empty b card ∷ (ill_sized n.sites room k, WorkspaceSize) ∷ []
 
-abbrev pub discard-causes : {V L : Type 0} → Book V L → ℕ → List (Bool × Refusal)
-discard-causes b card = no-card b card ∷ card-empty b card ∷ []
+abbrev pub discard_causes : {V L : Type 0} → Book V L → ℕ → List (Bool × Refusal)
+discard_causes b card = no_card b card ∷ card_empty b card ∷ []
 
 -- how many legs are to be copied of what stands at a card place
-abbrev pub legs-of : {V L : Type 0} → Option (Card V L) → ℕ
-legs-of None = 0
-legs-of (Some card) = leg-count card.answer
+abbrev pub legs_of : {V L : Type 0} → Option (Card V L) → ℕ
+legs_of None = 0
+legs_of (Some card) = leg_count card.answer
 
 -- `room` is how many numbers the reply has
-abbrev pub read-causes : {V L : Type 0} → Book V L → ℕ → ℕ → ℕ → List (Bool × Refusal)
-read-causes b room card start = no-card b card ∷ card-empty b card ∷ (nat_lt room (start + legs-of (at b.cards card)), ReplyTooShort) ∷ []
+abbrev pub read_causes : {V L : Type 0} → Book V L → ℕ → ℕ → ℕ → List (Bool × Refusal)
+read_causes b room card start = no_card b card ∷ card_empty b card ∷ (nat_lt room (start + legs_of (at b.cards card)), ReplyTooShort) ∷ []
 
 -- What routing answers, where it is neither refused nor full. A route: the best walk, of these legs, with its number of legs, value and ratio.
 -- None: no walk joins the ends within the limit. (A catalogue that is not sound, which no run of calls makes, is answered none.)
@@ -95,61 +95,61 @@ Overfull K n ask k site = Crowded K ask.limit (Holds n.links) k ask.source site
 abbrev pub Emptied : {V L : Type 0} → Kind V L → List (Label V) → Type 0
 Emptied K labels = Frees (table K labels) (length labels)
 
-abbrev pub standing-card : {V L : Type 0} → Ask L → Option (Route V) → Card V L
-standing-card ask answer = record { ask = ask; answer = answer; mark = Standing }
+abbrev pub standing_card : {V L : Type 0} → Ask L → Option (Route V) → Card V L
+standing_card ask answer = record { ask = ask; answer = answer; mark = Standing }
 
 -- The full outcome of each call: one way for each way that it can end. What a call leaves stands after its answer; whatever is not named
 -- there is only looked at.
 
 -- an offer: the answer, and the catalogue and the quote book afterwards
 pub data Offered {V L : Type 0} (K : Kind V L) (n : Network V) (b : Book V L) (place : ℕ) (link : Link V) : Result ℕ Refusal → Network V → Book V L → Type 0 where
-  offer-refused : (why : Refusal) → topmost (offer-causes K n b place link) ≡ Some why → Offered K n b place link (Err why) n b
-  offered : (count : ℕ) (cards : List (Option (Card V L))) → topmost (offer-causes K n b place link) ≡ None →
-      Doubted (struck-by-offer K link.value) b cards count →
-      Offered K n b place link (Ok count) (with-links n (slice_set n.links place (Some link))) (with-cards b cards)
+  offer_refused : (why : Refusal) → topmost (offer_causes K n b place link) ≡ Some why → Offered K n b place link (Err why) n b
+  offered : (count : ℕ) (cards : List (Option (Card V L))) → topmost (offer_causes K n b place link) ≡ None →
+      Doubted (struck_by_offer K link.value) b cards count →
+      Offered K n b place link (Ok count) (with_links n (slice_set n.links place (Some link))) (with_cards b cards)
 
 -- a change
 pub data Changed {V L : Type 0} (K : Kind V L) (n : Network V) (b : Book V L) (place : ℕ) (value : V) : Result ℕ Refusal → Network V → Book V L → Type 0 where
-  change-refused : (why : Refusal) → topmost (change-causes K n b place value) ≡ Some why → Changed K n b place value (Err why) n b
-  changed : (old : Link V) (count : ℕ) (cards : List (Option (Card V L))) → topmost (change-causes K n b place value) ≡ None →
-      at n.links place ≡ Some old → Doubted (struck-by-change K place old.value value) b cards count →
-      Changed K n b place value (Ok count) (with-links n (slice_set n.links place (Some (revalued old value)))) (with-cards b cards)
+  change_refused : (why : Refusal) → topmost (change_causes K n b place value) ≡ Some why → Changed K n b place value (Err why) n b
+  changed : (old : Link V) (count : ℕ) (cards : List (Option (Card V L))) → topmost (change_causes K n b place value) ≡ None →
+      at n.links place ≡ Some old → Doubted (struck_by_change K place old.value value) b cards count →
+      Changed K n b place value (Ok count) (with_links n (slice_set n.links place (Some (revalued old value)))) (with_cards b cards)
 
 -- a withdrawal
 pub data Withdrawn {V L : Type 0} (K : Kind V L) (n : Network V) (b : Book V L) (place : ℕ) : Result ℕ Refusal → Network V → Book V L → Type 0 where
-  withdraw-refused : (why : Refusal) → topmost (withdraw-causes n b place) ≡ Some why → Withdrawn K n b place (Err why) n b
-  withdrawn : (count : ℕ) (cards : List (Option (Card V L))) → topmost (withdraw-causes n b place) ≡ None →
-      Doubted (struck-by-withdrawal K place) b cards count →
-      Withdrawn K n b place (Ok count) (with-links n (slice_set n.links place None)) (with-cards b cards)
+  withdraw_refused : (why : Refusal) → topmost (withdraw_causes n b place) ≡ Some why → Withdrawn K n b place (Err why) n b
+  withdrawn : (count : ℕ) (cards : List (Option (Card V L))) → topmost (withdraw_causes n b place) ≡ None →
+      Doubted (struck_by_withdrawal K place) b cards count →
+      Withdrawn K n b place (Ok count) (with_links n (slice_set n.links place None)) (with_cards b cards)
 
 -- a quote: the answer, and the quote book and the workspace afterwards
 pub data Quoted {V L : Type 0} (K : Kind V L) (n : Network V) (b : Book V L) (labels : List (Label V)) (card : ℕ) (ask : Ask L) (k : ℕ) : Result (Option (Route V)) Refusal → Book V L → List (Label V) → Type 0 where
-  quote-refused : (why : Refusal) → topmost (quote-causes K n b (length labels) card ask k) ≡ Some why → Quoted K n b labels card ask k (Err why) b labels
-  quote-full : (site : ℕ) (labels' : List (Label V)) → topmost (quote-causes K n b (length labels) card ask k) ≡ None →
+  quote_refused : (why : Refusal) → topmost (quote_causes K n b (length labels) card ask k) ≡ Some why → Quoted K n b labels card ask k (Err why) b labels
+  quote_full : (site : ℕ) (labels' : List (Label V)) → topmost (quote_causes K n b (length labels) card ask k) ≡ None →
       Overfull K n ask k site → Emptied K labels' → Quoted K n b labels card ask k (Err (LabelsFull site)) b labels'
-  quoted : (answer : Option (Route V)) (legs : List ℕ) (labels' : List (Label V)) → topmost (quote-causes K n b (length labels) card ask k) ≡ None →
+  quoted : (answer : Option (Route V)) (legs : List ℕ) (labels' : List (Label V)) → topmost (quote_causes K n b (length labels) card ask k) ≡ None →
       Found K n ask answer legs → Emptied K labels' →
-      Quoted K n b labels card ask k (Ok answer) (with-card b card (Some (standing-card ask answer)) legs) labels'
+      Quoted K n b labels card ask k (Ok answer) (with_card b card (Some (standing_card ask answer)) legs) labels'
 
 -- a recheck: likewise; a standing card is only looked at
 pub data Rechecked {V L : Type 0} (K : Kind V L) (n : Network V) (b : Book V L) (labels : List (Label V)) (card k : ℕ) : Result (Option (Route V)) Refusal → Book V L → List (Label V) → Type 0 where
-  recheck-refused : (why : Refusal) → topmost (recheck-causes K n b (length labels) card k) ≡ Some why → Rechecked K n b labels card k (Err why) b labels
-  still-standing : (it : Card V L) → topmost (recheck-causes K n b (length labels) card k) ≡ None →
+  recheck_refused : (why : Refusal) → topmost (recheck_causes K n b (length labels) card k) ≡ Some why → Rechecked K n b labels card k (Err why) b labels
+  still_standing : (it : Card V L) → topmost (recheck_causes K n b (length labels) card k) ≡ None →
       at b.cards card ≡ Some it → it.mark ≡ Standing → Rechecked K n b labels card k (Ok it.answer) b labels
-  recheck-full : (it : Card V L) (site : ℕ) (labels' : List (Label V)) → topmost (recheck-causes K n b (length labels) card k) ≡ None →
+  recheck_full : (it : Card V L) (site : ℕ) (labels' : List (Label V)) → topmost (recheck_causes K n b (length labels) card k) ≡ None →
       at b.cards card ≡ Some it → it.mark ≡ Doubtful → Overfull K n it.ask k site → Emptied K labels' →
       Rechecked K n b labels card k (Err (LabelsFull site)) b labels'
-  rechecked : (it : Card V L) (answer : Option (Route V)) (legs : List ℕ) (labels' : List (Label V)) → topmost (recheck-causes K n b (length labels) card k) ≡ None →
+  rechecked : (it : Card V L) (answer : Option (Route V)) (legs : List ℕ) (labels' : List (Label V)) → topmost (recheck_causes K n b (length labels) card k) ≡ None →
       at b.cards card ≡ Some it → it.mark ≡ Doubtful → Found K n it.ask answer legs → Emptied K labels' →
-      Rechecked K n b labels card k (Ok answer) (with-card b card (Some (standing-card it.ask answer)) legs) labels'
+      Rechecked K n b labels card k (Ok answer) (with_card b card (Some (standing_card it.ask answer)) legs) labels'
 
 -- a discard: the answer, and the quote book afterwards
 pub data Discarded {V L : Type 0} (b : Book V L) (card : ℕ) : Result (Unit {0}) Refusal → Book V L → Type 0 where
-  discard-refused : (why : Refusal) → topmost (discard-causes b card) ≡ Some why → Discarded b card (Err why) b
-  discarded : topmost (discard-causes b card) ≡ None → Discarded b card (Ok tt) (with-card b card None [])
+  discard_refused : (why : Refusal) → topmost (discard_causes b card) ≡ Some why → Discarded b card (Err why) b
+  discarded : topmost (discard_causes b card) ≡ None → Discarded b card (Ok tt) (with_card b card None [])
 
 -- a reading: the answer, and the reply afterwards, with the legs from the start place on
 pub data Shown {V L : Type 0} (b : Book V L) (card start : ℕ) (reply : List ℕ) : Result (Mark × Option (Route V)) Refusal → List ℕ → Type 0 where
-  read-refused : (why : Refusal) → topmost (read-causes b (length reply) card start) ≡ Some why → Shown b card start reply (Err why) reply
-  shown : (it : Card V L) → topmost (read-causes b (length reply) card start) ≡ None → at b.cards card ≡ Some it →
-      Shown b card start reply (Ok (it.mark, it.answer)) (paste reply start (legs-at b card it.answer) (length (legs-at b card it.answer)))
+  read_refused : (why : Refusal) → topmost (read_causes b (length reply) card start) ≡ Some why → Shown b card start reply (Err why) reply
+  shown : (it : Card V L) → topmost (read_causes b (length reply) card start) ≡ None → at b.cards card ≡ Some it →
+      Shown b card start reply (Ok (it.mark, it.answer)) (paste reply start (legs_at b card it.answer) (length (legs_at b card it.answer)))

@@ -9,7 +9,7 @@ use Rattle.routing.specs.declared.Route.{Route}
 use Rattle.cards.specs.declared.Card.{Card}
 use Rattle.cards.specs.declared.MarkEvent.{MarkEvent}
 use Rattle.cards.specs.declared.MarkEvent.TheVariants.{Struck, Spared, Answered}
-use Rattle.cards.specs.Books.{Book, legs-at}
+use Rattle.cards.specs.Books.{Book, legs_at}
 
 -- the legs use the link at the place
 abbrev pub uses : List ℕ → ℕ → Bool
@@ -32,17 +32,17 @@ Rule V L = List ℕ → Card V L → Bool
 
 module _ {V L : Type 0} (K : Kind V L) where
   -- a link of this value was offered
-  abbrev pub struck-by-offer : V → Rule V L
-  struck-by-offer value legs card = threatens K card.ask.limit card.answer value
+  abbrev pub struck_by_offer : V → Rule V L
+  struck_by_offer value legs card = threatens K card.ask.limit card.answer value
 
   -- the link at the place was withdrawn
-  abbrev pub struck-by-withdrawal : ℕ → Rule V L
-  struck-by-withdrawal place legs card = uses legs place
+  abbrev pub struck_by_withdrawal : ℕ → Rule V L
+  struck_by_withdrawal place legs card = uses legs place
 
   -- the link at the place has a new value. The same value strikes no card; another one strikes a card whose route uses the link, and any
   -- other card as an offer would, unless the old value dominates the new one
-  abbrev pub struck-by-change : ℕ → V → V → Rule V L
-  struck-by-change place old new legs card =
+  abbrev pub struck_by_change : ℕ → V → V → Rule V L
+  struck_by_change place old new legs card =
       not (same K old new) && (uses legs place || (not (K.dominates old new) && threatens K card.ask.limit card.answer new))
 
 -- the mark after an event: a standing card that is struck is doubtful, and a doubtful one stays so until it is answered anew
@@ -54,24 +54,24 @@ next Doubtful Struck = Doubtful
 next Doubtful Spared = Doubtful
 next Doubtful Answered = Standing
 
-abbrev pub is-standing : Mark → Bool
-is-standing Standing = true
-is-standing Doubtful = false
+abbrev pub is_standing : Mark → Bool
+is_standing Standing = true
+is_standing Doubtful = false
 
 -- a card place after news that strikes the card or not, and whether the card went from standing to doubtful
 abbrev pub marked : {V L : Type 0} → Card V L → Mark → Card V L
 marked card mark = record { ask = card.ask; answer = card.answer; mark = mark }
 
-abbrev pub event-of : Bool → MarkEvent
-event-of struck = cond struck Struck Spared
+abbrev pub event_of : Bool → MarkEvent
+event_of struck = cond struck Struck Spared
 
 abbrev pub lapsed : {V L : Type 0} → (Card V L → Bool) → Option (Card V L) → Option (Card V L)
 lapsed struck None = None
-lapsed struck (Some card) = Some (marked card (next card.mark (event-of (struck card))))
+lapsed struck (Some card) = Some (marked card (next card.mark (event_of (struck card))))
 
 abbrev pub fell : {V L : Type 0} → (Card V L → Bool) → Option (Card V L) → Bool
 fell struck None = false
-fell struck (Some card) = is-standing card.mark && not (is-standing (next card.mark (event-of (struck card))))
+fell struck (Some card) = is_standing card.mark && not (is_standing (next card.mark (event_of (struck card))))
 
 -- how many numbers below n pass
 abbrev pub tally : (ℕ → Bool) → ℕ → ℕ
@@ -80,7 +80,7 @@ tally test (suc n) = tally test n + cond (test n) 1 0
 
 -- whether the rule strikes the card at the place c
 abbrev pub strikes : {V L : Type 0} → Rule V L → Book V L → ℕ → Card V L → Bool
-strikes rule b c card = rule (legs-at b c card.answer) card
+strikes rule b c card = rule (legs_at b c card.answer) card
 
 -- the cards of the book after news, and how many of them went from standing to doubtful
 pub record Doubted {V L : Type 0} (rule : Rule V L) (b : Book V L) (cards : List (Option (Card V L))) (count : ℕ) : Type 0 where

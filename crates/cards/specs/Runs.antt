@@ -8,7 +8,7 @@ use Rattle.report.specs.declared.Mark.TheVariants.{Standing}
 use Rattle.report.specs.declared.Refusal.{Refusal}
 use Rattle.report.specs.declared.Refusal.TheVariants.{LabelsFull}
 use Rattle.catalogue.specs.declared.Link.{Link}
-use Rattle.catalogue.specs.Calls.{size-answer, revalued}
+use Rattle.catalogue.specs.Calls.{size_answer, revalued}
 use Rattle.catalogue.specs.Places.{at}
 use Rattle.catalogue.specs.Walks.{Holds, Walk}
 use Rattle.catalogue.specs.Routes.{Outside, Crowded}
@@ -19,7 +19,7 @@ use Rattle.cards.specs.declared.Call.{Call}
 use Rattle.cards.specs.declared.Call.TheVariants.{Offer, Change, Withdraw, Quote, Recheck, Discard, Read}
 use Rattle.cards.specs.declared.Reply.{Reply}
 use Rattle.cards.specs.declared.Reply.TheVariants.{Counted, Held, Refused}
-use Rattle.cards.specs.Books.{Network, Book, book-size-answer, opened-network, opened-book, leg-count}
+use Rattle.cards.specs.Books.{Network, Book, book_size_answer, opened_network, opened_book, leg_count}
 use Rattle.cards.specs.Calls.{Offered, Changed, Withdrawn, Quoted, Rechecked, Discarded, Shown}
 
 -- a catalogue and its quote book
@@ -57,21 +57,21 @@ lent labels reply = record { labels = labels; reply = reply }
 
 -- The full outcome of a call, whichever it is: what it answers, and the memory and what was lent afterwards.
 pub data Outcome {V L : Type 0} (K : Kind V L) (m : Memory V L) (l : Lent V) : Call V L → Reply V → Memory V L → Lent V → Type 0 where
-  by-offer : {place : ℕ} {link : Link V} {r : Result ℕ Refusal} {n : Network V} {b : Book V L} →
+  by_offer : {place : ℕ} {link : Link V} {r : Result ℕ Refusal} {n : Network V} {b : Book V L} →
       Offered K m.network m.book place link r n b → Outcome K m l (Offer place link) (counted r) (memory n b) l
-  by-change : {place : ℕ} {value : V} {r : Result ℕ Refusal} {n : Network V} {b : Book V L} →
+  by_change : {place : ℕ} {value : V} {r : Result ℕ Refusal} {n : Network V} {b : Book V L} →
       Changed K m.network m.book place value r n b → Outcome K m l (Change place value) (counted r) (memory n b) l
-  by-withdrawal : {place : ℕ} {r : Result ℕ Refusal} {n : Network V} {b : Book V L} →
+  by_withdrawal : {place : ℕ} {r : Result ℕ Refusal} {n : Network V} {b : Book V L} →
       Withdrawn K m.network m.book place r n b → Outcome K m l (Withdraw place) (counted r) (memory n b) l
-  by-quote : {card k : ℕ} {ask : Ask L} {r : Result (Option (Route V)) Refusal} {b : Book V L} {labels : List (Label V)} →
+  by_quote : {card k : ℕ} {ask : Ask L} {r : Result (Option (Route V)) Refusal} {b : Book V L} {labels : List (Label V)} →
       Quoted K m.network m.book l.labels card ask k r b labels →
       Outcome K m l (Quote card ask k) (answered r) (memory m.network b) (lent labels l.reply)
-  by-recheck : {card k : ℕ} {r : Result (Option (Route V)) Refusal} {b : Book V L} {labels : List (Label V)} →
+  by_recheck : {card k : ℕ} {r : Result (Option (Route V)) Refusal} {b : Book V L} {labels : List (Label V)} →
       Rechecked K m.network m.book l.labels card k r b labels →
       Outcome K m l (Recheck card k) (answered r) (memory m.network b) (lent labels l.reply)
-  by-discard : {card : ℕ} {r : Result (Unit {0}) Refusal} {b : Book V L} →
+  by_discard : {card : ℕ} {r : Result (Unit {0}) Refusal} {b : Book V L} →
       Discarded m.book card r b → Outcome K m l (Discard card) (emptied r) (memory m.network b) l
-  by-reading : {card start : ℕ} {r : Result (Mark × Option (Route V)) Refusal} {reply : List ℕ} →
+  by_reading : {card start : ℕ} {r : Result (Mark × Option (Route V)) Refusal} {reply : List ℕ} →
       Shown m.book card start l.reply r reply → Outcome K m l (Read card start) (showing r) m (lent l.labels reply)
 
 -- One call and what it answered. A history has its latest event first.
@@ -83,10 +83,10 @@ abbrev pub event : {V L : Type 0} → Call V L → Reply V → Event V L
 event call reply = record { call = call; reply = reply }
 
 -- one thing where the call was refused, another where it was not
-abbrev pub unless-refused : {V A : Type 0} → Reply V → A → A → A
-unless-refused (Refused why) done stays = stays
-unless-refused (Counted count) done stays = done
-unless-refused (Held mark answer) done stays = done
+abbrev pub unless_refused : {V A : Type 0} → Reply V → A → A → A
+unless_refused (Refused why) done stays = stays
+unless_refused (Counted count) done stays = done
+unless_refused (Held mark answer) done stays = done
 
 -- what a call that is not refused makes of the links
 abbrev pub revalue : {V : Type 0} → V → Option (Link V) → Option (Link V)
@@ -105,7 +105,7 @@ relinked (Read card start) links = links
 -- The present catalogue: what the arguments of the offers, changes and withdrawals that were not refused make, in order, of the empty one.
 abbrev pub present : {V L : Type 0} → ℕ → List (Event V L) → List (Option (Link V))
 present places [] = replicate places None
-present places (e ∷ before) = unless-refused e.reply (relinked e.call (present places before)) (present places before)
+present places (e ∷ before) = unless_refused e.reply (relinked e.call (present places before)) (present places before)
 
 -- What a card was asked: the ends and the limit of the quote that filled it; nothing where it is empty.
 abbrev pub reasked : {V L : Type 0} → ℕ → Call V L → Option (Ask L) → Option (Ask L)
@@ -119,31 +119,31 @@ reasked c (Read card start) was = was
 
 abbrev pub asked : {V L : Type 0} → ℕ → List (Event V L) → Option (Ask L)
 asked c [] = None
-asked c (e ∷ before) = unless-refused e.reply (reasked c e.call (asked c before)) (asked c before)
+asked c (e ∷ before) = unless_refused e.reply (reasked c e.call (asked c before)) (asked c before)
 
 -- What a call would look for after a history, and with how many labels a site.
 pub record Sought (L : Type 0) : Type 0 where
   pub ask : Ask L
   pub k : ℕ
 
-abbrev pub sought-by : {L : Type 0} → ℕ → Option (Ask L) → Option (Sought L)
-sought-by k None = None
-sought-by k (Some ask) = Some (record { ask = ask; k = k })
+abbrev pub sought_by : {L : Type 0} → ℕ → Option (Ask L) → Option (Sought L)
+sought_by k None = None
+sought_by k (Some ask) = Some (record { ask = ask; k = k })
 
 abbrev pub sought : {V L : Type 0} → List (Event V L) → Call V L → Option (Sought L)
 sought before (Offer place link) = None
 sought before (Change place value) = None
 sought before (Withdraw place) = None
-sought before (Quote card ask k) = sought-by k (Some ask)
-sought before (Recheck card k) = sought-by k (asked card before)
+sought before (Quote card ask k) = sought_by k (Some ask)
+sought before (Recheck card k) = sought_by k (asked card before)
 sought before (Discard card) = None
 sought before (Read card start) = None
 
 -- The history happened to a catalogue of so many places and the quote book that was opened with it, and left this memory. Sizes that
 -- opening refuses are not opened. Each call may bring another workspace and another reply.
 pub data Happened {V L : Type 0} (K : Kind V L) (places : ℕ) : List (Event V L) → Memory V L → Type 0 where
-  opened : (sites cards : ℕ) (rows : List ℕ) → size-answer sites places ≡ Ok tt → book-size-answer sites cards (length rows) ≡ Ok tt →
-      Happened K places [] (memory (opened-network sites places) (opened-book sites cards rows))
+  opened : (sites cards : ℕ) (rows : List ℕ) → size_answer sites places ≡ Ok tt → book_size_answer sites cards (length rows) ≡ Ok tt →
+      Happened K places [] (memory (opened_network sites places) (opened_book sites cards rows))
   and_then : {history : List (Event V L)} {before after : Memory V L} {l l' : Lent V} {call : Call V L} {reply : Reply V} →
       Happened K places history before → Outcome K before l call reply after l' → Happened K places (event call reply ∷ history) after
 
@@ -163,7 +163,7 @@ pub record NoBetter {V L : Type 0} (K : Kind V L) (links : List (Option (Link V)
 abbrev pub Reads : {V L : Type 0} → Memory V L → ℕ → Mark → Option (Route V) → List ℕ → Type 0
 Reads m card mark answer legs =
     (start : ℕ) × (reply : List ℕ) × (reply' : List ℕ) × Shown m.book card start reply (Ok (mark, answer)) reply'
-    × (legs ≡ take (leg-count answer) (drop start reply'))
+    × (legs ≡ take (leg_count answer) (drop start reply'))
 
 -- What holds after a history that left this memory.
 pub record Promised {V L : Type 0} (K : Kind V L) (places : ℕ) (history : List (Event V L)) (m : Memory V L) : Type 0 where

@@ -3,47 +3,47 @@ use Rattle.std.specs.Prelude.{ℕ, Bool, not, ◌||◌, List, [], ◌∷◌, len
 use Rattle.measure.specs.Kind.{Kind}
 use Rattle.report.specs.declared.Refusal.{Refusal}
 use Rattle.report.specs.declared.Refusal.TheVariants.{CatalogueSize, NoSuchLink, NoSuchSite, EndsMeet, ValueNotAdmitted, LinkTaken, LinkEmpty}
-use Rattle.report.specs.Refusals.{topmost, unless, filled-or}
+use Rattle.report.specs.Refusals.{topmost, unless, filled_or}
 use Rattle.catalogue.specs.declared.Link.{Link}
 use Rattle.catalogue.specs.Places.{at}
 
 -- Opening: 1 to 256 sites and 1 to 4,096 places.
-abbrev pub size-answer : ℕ → ℕ → Result (Unit {0}) Refusal
-size-answer sites places =
+abbrev pub size_answer : ℕ → ℕ → Result (Unit {0}) Refusal
+size_answer sites places =
     unless (topmost ((nat_lt sites 1 || nat_lt 256 sites || nat_lt places 1 || nat_lt 4096 places, CatalogueSize) ∷ [])) (Ok tt)
 
 -- Storing a link.
-abbrev pub store-causes : {V L : Type 0} → Kind V L → ℕ → List (Option (Link V)) → ℕ → Link V → List (Bool × Refusal)
-store-causes K sites links place link =
+abbrev pub store_causes : {V L : Type 0} → Kind V L → ℕ → List (Option (Link V)) → ℕ → Link V → List (Bool × Refusal)
+store_causes K sites links place link =
     (nat_le (length links) place, NoSuchLink) ∷ (nat_le sites link.start || nat_le sites link.end, NoSuchSite) ∷ ((link.start == link.end), EndsMeet)
     ∷ (not (K.admitted link.value), ValueNotAdmitted) ∷ (is_some (at links place), LinkTaken) ∷ []
 
-abbrev pub store-answer : {V L : Type 0} → Kind V L → ℕ → List (Option (Link V)) → ℕ → Link V → Result (Unit {0}) Refusal
-store-answer K sites links place link = unless (topmost (store-causes K sites links place link)) (Ok tt)
+abbrev pub store_answer : {V L : Type 0} → Kind V L → ℕ → List (Option (Link V)) → ℕ → Link V → Result (Unit {0}) Refusal
+store_answer K sites links place link = unless (topmost (store_causes K sites links place link)) (Ok tt)
 
 abbrev pub stored : {V L : Type 0} → Kind V L → ℕ → List (Option (Link V)) → ℕ → Link V → List (Option (Link V))
-stored K sites links place link = elim (store-answer K sites links place link) [ Ok _ ↦ slice_set links place (Some link) | Err _ ↦ links ]
+stored K sites links place link = elim (store_answer K sites links place link) [ Ok _ ↦ slice_set links place (Some link) | Err _ ↦ links ]
 
 -- Replacing a link's value: the answer is the link as it was.
 abbrev pub revalued : {V : Type 0} → Link V → V → Link V
 revalued link value = record { start = link.start; end = link.end; value = value }
 
-abbrev pub replace-causes : {V L : Type 0} → Kind V L → List (Option (Link V)) → ℕ → V → List (Bool × Refusal)
-replace-causes K links place value =
+abbrev pub replace_causes : {V L : Type 0} → Kind V L → List (Option (Link V)) → ℕ → V → List (Bool × Refusal)
+replace_causes K links place value =
     (nat_le (length links) place, NoSuchLink) ∷ (not (K.admitted value), ValueNotAdmitted) ∷ (not (is_some (at links place)), LinkEmpty) ∷ []
 
-abbrev pub replace-answer : {V L : Type 0} → Kind V L → List (Option (Link V)) → ℕ → V → Result (Link V) Refusal
-replace-answer K links place value = unless (topmost (replace-causes K links place value)) (filled-or LinkEmpty (at links place))
+abbrev pub replace_answer : {V L : Type 0} → Kind V L → List (Option (Link V)) → ℕ → V → Result (Link V) Refusal
+replace_answer K links place value = unless (topmost (replace_causes K links place value)) (filled_or LinkEmpty (at links place))
 
 abbrev pub replaced : {V L : Type 0} → Kind V L → List (Option (Link V)) → ℕ → V → List (Option (Link V))
-replaced K links place value = elim (replace-answer K links place value) [ Ok old ↦ slice_set links place (Some (revalued old value)) | Err _ ↦ links ]
+replaced K links place value = elim (replace_answer K links place value) [ Ok old ↦ slice_set links place (Some (revalued old value)) | Err _ ↦ links ]
 
 -- Removing a link: the answer is the link that stood there.
-abbrev pub remove-causes : {V : Type 0} → List (Option (Link V)) → ℕ → List (Bool × Refusal)
-remove-causes links place = (nat_le (length links) place, NoSuchLink) ∷ (not (is_some (at links place)), LinkEmpty) ∷ []
+abbrev pub remove_causes : {V : Type 0} → List (Option (Link V)) → ℕ → List (Bool × Refusal)
+remove_causes links place = (nat_le (length links) place, NoSuchLink) ∷ (not (is_some (at links place)), LinkEmpty) ∷ []
 
-abbrev pub remove-answer : {V : Type 0} → List (Option (Link V)) → ℕ → Result (Link V) Refusal
-remove-answer links place = unless (topmost (remove-causes links place)) (filled-or LinkEmpty (at links place))
+abbrev pub remove_answer : {V : Type 0} → List (Option (Link V)) → ℕ → Result (Link V) Refusal
+remove_answer links place = unless (topmost (remove_causes links place)) (filled_or LinkEmpty (at links place))
 
 abbrev pub removed : {V : Type 0} → List (Option (Link V)) → ℕ → List (Option (Link V))
-removed links place = elim (remove-answer links place) [ Ok _ ↦ slice_set links place None | Err _ ↦ links ]
+removed links place = elim (remove_answer links place) [ Ok _ ↦ slice_set links place None | Err _ ↦ links ]

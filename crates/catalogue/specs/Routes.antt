@@ -7,15 +7,15 @@ use Rattle.catalogue.specs.Walks.{Holds, Walk, Simple}
 
 -- a link that a catalogue of so many sites may hold: it joins two different sites, and its value is admitted
 pub record SoundLink {V L : Type 0} (K : Kind V L) (sites s t : ℕ) (c : V) : Type 0 where
-  pub start-in : s < sites
-  pub end-in : t < sites
-  pub ends-apart : s ≡ t → ⊥
+  pub start_in : s < sites
+  pub end_in : t < sites
+  pub ends_apart : s ≡ t → ⊥
   pub admitted : Is (K.admitted c)
 
 -- a catalogue as its calls make it: of a size that can be opened, and every link is such
 pub record Sound {V L : Type 0} (K : Kind V L) (sites : ℕ) (links : List (Option (Link V))) : Type 0 where
-  pub sites-few : sites ≤ 256
-  pub places-few : length links ≤ 4096
+  pub sites_few : sites ≤ 256
+  pub places_few : length links ≤ 4096
   pub each : (p s t : ℕ) (c : V) → Holds links p s t c → SoundLink K sites s t c
 
 module _ {V L : Type 0} (K : Kind V L) (l : L) (Has : ℕ → ℕ → ℕ → V → Type 0) where

@@ -2,7 +2,7 @@
 ghost use Rattle.std.specs.Prelude.{◌≡◌, ℕ, List, length, replicate, None, Option as Maybe};
 ghost use Rattle.catalogue.specs.declared.Link.{Link as Edge};
 ghost use Rattle.catalogue.specs.Places.{at};
-ghost use Rattle.catalogue.specs.Calls.{size-answer, store-answer, stored, replace-answer, replaced, remove-answer, removed};
+ghost use Rattle.catalogue.specs.Calls.{size_answer, store_answer, stored, replace_answer, replaced, remove_answer, removed};
 
 use measure::Measure;
 use report::Refusal;
@@ -45,7 +45,7 @@ pub struct Catalogue<'a, M> {
 
 // Whether a catalogue of this size may be opened: 1 to 256 sites and 1 to 4,096 places.
 pub fn check_size(sites: usize, places: usize) -> Result<(), Refusal>
-    ensures { result ≡ size-answer sites places }
+    ensures { result ≡ size_answer sites places }
 {
     if sites < 1 || 256 < sites || places < 1 || 4096 < places {
         return Err(Refusal::CatalogueSize);
@@ -79,7 +79,7 @@ fn store_at<M: Measure>(
     place: usize,
     link: Link<M>,
 ) -> Result<(), Refusal>
-    ensures answer { result ≡ store-answer M.Measure.kind sites links.old place link }
+    ensures answer { result ≡ store_answer M.Measure.kind sites links.old place link }
     ensures links { links.new ≡ stored M.Measure.kind sites links.old place link }
 {
     if place >= links.len() {
@@ -106,7 +106,7 @@ fn replace_at<M: Measure>(
     place: usize,
     value: M,
 ) -> Result<Link<M>, Refusal>
-    ensures answer { result ≡ replace-answer M.Measure.kind links.old place value }
+    ensures answer { result ≡ replace_answer M.Measure.kind links.old place value }
     ensures links { links.new ≡ replaced M.Measure.kind links.old place value }
 {
     if place >= links.len() {
@@ -124,7 +124,7 @@ fn replace_at<M: Measure>(
 }
 
 fn remove_at<M: Measure>(links: &mut [Option<Link<M>>], place: usize) -> Result<Link<M>, Refusal>
-    ensures answer { result ≡ remove-answer links.old place }
+    ensures answer { result ≡ remove_answer links.old place }
     ensures links { links.new ≡ removed links.old place }
 {
     if place >= links.len() {
@@ -153,7 +153,7 @@ impl<'a, M: Measure> Catalogue<'a, M> {
 impl<M: Measure> Catalogue<'_, M> {
     // Puts the link at an empty place.
     pub fn store(&mut self, place: usize, link: Link<M>) -> Result<(), Refusal>
-        ensures answer { result ≡ store-answer M.Measure.kind self.old.sites self.old.links.now place link }
+        ensures answer { result ≡ store_answer M.Measure.kind self.old.sites self.old.links.now place link }
         ensures links { self.new.links.now ≡ stored M.Measure.kind self.old.sites self.old.links.now place link }
         ensures sites { self.new.sites ≡ self.old.sites }
         ensures same { self.new.links.ghost_name ≡ self.old.links.ghost_name }
@@ -164,7 +164,7 @@ impl<M: Measure> Catalogue<'_, M> {
 
     // Gives the link at the place another value, and answers the link as it was.
     pub fn replace(&mut self, place: usize, value: M) -> Result<Link<M>, Refusal>
-        ensures answer { result ≡ replace-answer M.Measure.kind self.old.links.now place value }
+        ensures answer { result ≡ replace_answer M.Measure.kind self.old.links.now place value }
         ensures links { self.new.links.now ≡ replaced M.Measure.kind self.old.links.now place value }
         ensures sites { self.new.sites ≡ self.old.sites }
         ensures same { self.new.links.ghost_name ≡ self.old.links.ghost_name }
@@ -174,7 +174,7 @@ impl<M: Measure> Catalogue<'_, M> {
 
     // Empties the place, and answers the link that stood there.
     pub fn remove(&mut self, place: usize) -> Result<Link<M>, Refusal>
-        ensures answer { result ≡ remove-answer self.old.links.now place }
+        ensures answer { result ≡ remove_answer self.old.links.now place }
         ensures links { self.new.links.now ≡ removed self.old.links.now place }
         ensures sites { self.new.sites ≡ self.old.sites }
         ensures same { self.new.links.ghost_name ≡ self.old.links.ghost_name }

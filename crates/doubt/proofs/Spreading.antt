@@ -6,20 +6,20 @@ use Rattle.catalogue.specs.Places.{at}
 use Rattle.cards.specs.declared.Card.{Card}
 use Rattle.cards.specs.Books.{Book}
 use Rattle.cards.specs.Doubts.{Rule, lapsed, fell, tally, strikes, Doubted}
-use Rattle.doubt.specs.News.{struck-in, either}
+use Rattle.doubt.specs.News.{struck_in, either}
 
 -- what is known of a card place by whether its card is struck
-pub lapsed-so : {V L : Type 0} (rule : Rule V L) (b : Book V L) (c : ℕ) (place : Option (Card V L)) → lapsed (either (struck-in rule b c place)) place ≡ lapsed (strikes rule b c) place
-lapsed-so rule b c None = refl
-lapsed-so rule b c (Some card) = refl
+pub lapsed_so : {V L : Type 0} (rule : Rule V L) (b : Book V L) (c : ℕ) (place : Option (Card V L)) → lapsed (either (struck_in rule b c place)) place ≡ lapsed (strikes rule b c) place
+lapsed_so rule b c None = refl
+lapsed_so rule b c (Some card) = refl
 
-pub fell-so : {V L : Type 0} (rule : Rule V L) (b : Book V L) (c : ℕ) (place : Option (Card V L)) → fell (either (struck-in rule b c place)) place ≡ fell (strikes rule b c) place
-fell-so rule b c None = refl
-fell-so rule b c (Some card) = refl
+pub fell_so : {V L : Type 0} (rule : Rule V L) (b : Book V L) (c : ℕ) (place : Option (Card V L)) → fell (either (struck_in rule b c place)) place ≡ fell (strikes rule b c) place
+fell_so rule b c None = refl
+fell_so rule b c (Some card) = refl
 
-tally-below : (test : ℕ → Bool) (n : ℕ) → tally test n ≤ n
-tally-below test zero = omega arith
-tally-below test (suc n) = go (test n) (tally-below test n)
+tally_below : (test : ℕ → Bool) (n : ℕ) → tally test n ≤ n
+tally_below test zero = omega arith
+tally_below test (suc n) = go (test n) (tally_below test n)
   where
     go : (b : Bool) → tally test n ≤ n → tally test n + cond b 1 0 ≤ suc n
     go true h = omega arith
@@ -55,8 +55,8 @@ module _ {V L : Type 0} (rule : Rule V L) (b : Book V L) where
             ∙ ap (tally test) (sym (add-one i));
       }
 
-  pub partly-all : (cards : List (Option (Card V L))) (i count : ℕ) → length b.cards ≤ i → i ≤ length b.cards → Partly cards i count → Doubted rule b cards count
-  partly-all cards i count le ge p =
+  pub partly_all : (cards : List (Option (Card V L))) (i count : ℕ) → length b.cards ≤ i → i ≤ length b.cards → Partly cards i count → Doubted rule b cards count
+  partly_all cards i count le ge p =
       let e : i ≡ length b.cards = omega arith in
       record {
         places = p.places;
@@ -65,5 +65,5 @@ module _ {V L : Type 0} (rule : Rule V L) (b : Book V L) where
         total = p.total ∙ ap (tally (λ c. fell (strikes rule b c) (at b.cards c))) e;
       }
 
-  pub partly-count : (cards : List (Option (Card V L))) (i count : ℕ) → Partly cards i count → count ≤ i
-  partly-count cards i count p = omega (arith, p.total, tally-below (λ c. fell (strikes rule b c) (at b.cards c)) i)
+  pub partly_count : (cards : List (Option (Card V L))) (i count : ℕ) → Partly cards i count → count ≤ i
+  partly_count cards i count p = omega (arith, p.total, tally_below (λ c. fell (strikes rule b c) (at b.cards c)) i)

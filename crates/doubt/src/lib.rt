@@ -1,9 +1,9 @@
 //! When a card falls into doubt: the rule, over anything that answers a quote book's questions, and the marks as a machine.
 ghost use Rattle.std.specs.Prelude.{◌≡◌, take};
 ghost use Rattle.catalogue.specs.Places.{at};
-ghost use Rattle.cards.specs.Books.{Book, row_at, leg-count};
-ghost use Rattle.cards.specs.Doubts.{uses, threatens, next, is-standing, lapsed, fell};
-ghost use Rattle.doubt.specs.News.{rule-of, struck-at, either};
+ghost use Rattle.cards.specs.Books.{Book, row_at, leg_count};
+ghost use Rattle.cards.specs.Doubts.{uses, threatens, next, is_standing, lapsed, fell};
+ghost use Rattle.doubt.specs.News.{rule_of, struck_at, either};
 
 use cards::{Card, MarkEvent};
 use measure::{Measure, ranks_before};
@@ -47,7 +47,7 @@ pub fn next_mark(mark: Mark, event: MarkEvent) -> Mark
 }
 
 fn is_standing(mark: Mark) -> bool
-    ensures { result ≡ is-standing mark }
+    ensures { result ≡ is_standing mark }
 {
     match mark {
         Mark::Standing => true,
@@ -67,7 +67,7 @@ fn is_threat<M: Measure>(limit: M::Limit, answer: Option<Route<M>>, value: M) ->
 
 // How many legs an answer has.
 pub fn leg_count<M: Copy>(answer: Option<Route<M>>) -> usize
-    ensures { result ≡ leg-count answer }
+    ensures { result ≡ leg_count answer }
 {
     match answer {
         None => 0,
@@ -77,7 +77,7 @@ pub fn leg_count<M: Copy>(answer: Option<Route<M>>) -> usize
 
 // Whether the news strikes the card at the place: an empty place is not struck.
 pub fn is_struck<M: Measure, B: Cards<M, M::Limit>>(book: &B, place: usize, news: News<M>) -> bool
-    ensures { result ≡ struck-at (rule-of M.Measure.kind news) (B.Cards.book book.now) place }
+    ensures { result ≡ struck_at (rule_of M.Measure.kind news) (B.Cards.book book.now) place }
 {
     let Some(card) = book.card(place) else {
         return false;

@@ -2,15 +2,15 @@
 //! on writing does not prove reading too, nor the other way round.
 ghost use Rattle.std.specs.Prelude.{◌≡◌, ◌∷◌, ◌++◌};
 ghost use Rattle.report.specs.Buffers.{Put};
-ghost use Rattle.records.specs.RoundTrip.{Reads-back, Written};
-ghost use Rattle.records.specs.Write.{bytes16, measures-bytes, encode};
+ghost use Rattle.records.specs.RoundTrip.{ReadsBack, Written};
+ghost use Rattle.records.specs.Write.{bytes16, measures_bytes, encode};
 
 use records::{Measures, Record};
 use report::Refusal;
 
 // The bytes of the measures, in their order.
 fn measures_to_bytes(measures: Measures) -> [u8; 12]
-    ensures { result ≡ measures-bytes measures }
+    ensures { result ≡ measures_bytes measures }
 {
     let [d3, d2, d1, d0] = measures.delay.to_be_bytes();
     let [p3, p2, p1, p0] = measures.price.to_be_bytes();
@@ -28,7 +28,7 @@ fn short_bytes(kind: u8, number: u16) -> [u8; 3]
 
 // The bytes of a change.
 fn change_bytes(link: u16, measures: Measures) -> [u8; 15]
-    ensures { result ≡ 2 ∷ (bytes16 link ++ measures-bytes measures) }
+    ensures { result ≡ 2 ∷ (bytes16 link ++ measures_bytes measures) }
 {
     let [l1, l0] = link.to_be_bytes();
     let [d3, d2, d1, d0, p3, p2, p1, p0, c3, c2, c1, c0] = measures_to_bytes(measures);
@@ -37,7 +37,7 @@ fn change_bytes(link: u16, measures: Measures) -> [u8; 15]
 
 // The bytes of a kind with three numbers and three measures.
 fn long_bytes(kind: u8, first: u16, second: u16, third: u16, measures: Measures) -> [u8; 19]
-    ensures { result ≡ kind ∷ (bytes16 first ++ (bytes16 second ++ (bytes16 third ++ measures-bytes measures))) }
+    ensures { result ≡ kind ∷ (bytes16 first ++ (bytes16 second ++ (bytes16 third ++ measures_bytes measures))) }
 {
     let [f1, f0] = first.to_be_bytes();
     let [s1, s0] = second.to_be_bytes();
@@ -97,7 +97,7 @@ fn put_record(record: Record, buffer: &mut [u8], place: usize) -> Result<usize, 
 // What was written reads back as the same record.
 pub fn write_record(record: Record, buffer: &mut [u8], start: usize) -> Result<usize, Refusal>
     ensures put { Put (encode «record») start buffer.old buffer.new result }
-    ensures reads_back { Reads-back «record» start buffer.new result }
+    ensures reads_back { ReadsBack «record» start buffer.new result }
 {
     put_record(record, buffer, start)
 }

@@ -4,8 +4,8 @@
 //! A record is one byte of kind, and then a body whose length the kind fixes. Numbers are big-endian: places and sites have 16 bits,
 //! measures 32.
 ghost use Rattle.std.specs.Prelude.{◌≡◌, ℕ, ◌+◌, ◌-◌, ◌≤◌, length, drop, Some, slice_index};
-ghost use Rattle.records.specs.Feed.{body-length, refusal-of, number32, reading-of, unread-of, Ahead};
-ghost use Rattle.records.specs.RoundTrip.{Writes-back, Reads-part};
+ghost use Rattle.records.specs.Feed.{body_length, refusal_of, number32, reading_of, unread_of, Ahead};
+ghost use Rattle.records.specs.RoundTrip.{WritesBack, ReadsPart};
 
 pub use encoding::{put_bytes, write_record};
 pub use records::{Measures, Reading, Record};
@@ -24,7 +24,7 @@ fn measures_from_bytes(delay: [u8; 4], price: [u8; 4], class: [u8; 4]) -> Measur
 
 // How many bytes follow the kind; none if it is the kind of no record.
 fn body_length(kind: u8) -> Option<usize>
-    ensures { result ≡ body-length kind }
+    ensures { result ≡ body_length kind }
 {
     match kind {
         1 | 4 => Some(18),
@@ -36,7 +36,7 @@ fn body_length(kind: u8) -> Option<usize>
 
 // Why no record is read at the place: it holds no kind, or fewer bytes are present than the kind's body has.
 fn refusal_at(kind: u8, present: usize, place: usize) -> Refusal
-    ensures { result ≡ refusal-of (body-length kind) present place }
+    ensures { result ≡ refusal_of (body_length kind) present place }
 {
     match body_length(kind) {
         None => Refusal::UnknownKind { place },
@@ -49,8 +49,8 @@ fn refusal_at(kind: u8, present: usize, place: usize) -> Refusal
 
 // What is read where the part has no whole record at its head: nothing of it is left to read.
 fn read_none(part: &[u8], place: usize) -> (Reading, &[u8])
-    requires { (n : ℕ) → body-length (slice_index part.now 0) ≡ Some n → length part.now ≤ n }
-    ensures { Reads-part part.now place result.0 result.1.now }
+    requires { (n : ℕ) → body_length (slice_index part.now 0) ≡ Some n → length part.now ≤ n }
+    ensures { ReadsPart part.now place result.0 result.1.now }
 {
     match *part {
         [kind, ref body @ ..] => {
@@ -64,7 +64,7 @@ fn read_none(part: &[u8], place: usize) -> (Reading, &[u8])
 // Reads the offer at the head of the part.
 fn read_offer(part: &[u8], place: usize) -> (Reading, &[u8])
     requires { slice_index part.now 0 ≡ 1 }
-    ensures { Reads-part part.now place result.0 result.1.now }
+    ensures { ReadsPart part.now place result.0 result.1.now }
 {
     match *part {
         [
@@ -114,7 +114,7 @@ fn read_offer(part: &[u8], place: usize) -> (Reading, &[u8])
 // Reads the change at the head of the part.
 fn read_change(part: &[u8], place: usize) -> (Reading, &[u8])
     requires { slice_index part.now 0 ≡ 2 }
-    ensures { Reads-part part.now place result.0 result.1.now }
+    ensures { ReadsPart part.now place result.0 result.1.now }
 {
     match *part {
         [
@@ -150,7 +150,7 @@ fn read_change(part: &[u8], place: usize) -> (Reading, &[u8])
 // Reads the quote at the head of the part.
 fn read_quote(part: &[u8], place: usize) -> (Reading, &[u8])
     requires { slice_index part.now 0 ≡ 4 }
-    ensures { Reads-part part.now place result.0 result.1.now }
+    ensures { ReadsPart part.now place result.0 result.1.now }
 {
     match *part {
         [
@@ -195,7 +195,7 @@ fn read_quote(part: &[u8], place: usize) -> (Reading, &[u8])
 
 // Reads the record at the head of the part, whose first byte stands at the place in its feed.
 fn read_head(part: &[u8], place: usize) -> (Reading, &[u8])
-    ensures { Reads-part part.now place result.0 result.1.now }
+    ensures { ReadsPart part.now place result.0 result.1.now }
 {
     match *part {
         [1, ..] => read_offer(part, place),
@@ -231,12 +231,12 @@ fn part_from(input: &[u8], start: usize) -> &[u8]
 // What the feed holds at the start place, counted from 0, and the part of it that is still to be read: empty where there is no record.
 // The next start place is `input.len() - rest.len()`. A record that was read is written as the bytes that it was read from.
 pub fn read_record(input: &[u8], start: usize) -> (Reading, &[u8])
-    ensures reading { result.0 ≡ reading-of (drop start input.now) start }
-    ensures rest { result.1.now ≡ unread-of (drop start input.now) }
+    ensures reading { result.0 ≡ reading_of (drop start input.now) start }
+    ensures rest { result.1.now ≡ unread_of (drop start input.now) }
     ensures placed { result.1.now ≡ drop (length input.now - length result.1.now) input.now }
     ensures within { length result.1.now ≤ length input.now }
     ensures ahead { Ahead result.0 (start + length result.1.now) (length input.now) }
-    ensures writes_back { Writes-back result.0 (drop start input.now) result.1.now }
+    ensures writes_back { WritesBack result.0 (drop start input.now) result.1.now }
 {
     read_head(part_from(input, start), start)
 }

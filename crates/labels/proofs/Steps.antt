@@ -4,104 +4,104 @@ use Rattle.std.proofs.lemmas.Bool.{both_ways, cases_eq, cases_Bool, cases_lt, fa
 use Rattle.labels.specs.declared.State.{State}
 use Rattle.labels.specs.declared.State.TheVariants.{Free, Queued, Settled}
 use Rattle.labels.specs.declared.Label.{Label}
-use Rattle.measure.specs.Kind.{Kind, Made, made-empty}
+use Rattle.measure.specs.Kind.{Kind, Made, made_empty}
 use Rattle.measure.specs.Laws.{Laws}
 use Rattle.measure.specs.Ranks.{Is, Fit, ranks}
 use Rattle.catalogue.specs.Walks.{Holds, extend, Goes, Walk, Stops, Simple}
 use Rattle.catalogue.specs.Routes.{First, Outside, Crowded}
-use Rattle.labels.proofs.Extending.{extend-made, extend-over, extend-keeps, rank-extend}
-use Rattle.labels.specs.Labels.{is_held, isQueued, isSettled, In, Held, Waits, Done, Off, Extends, Chain, path, Has, Kept, Spread, Spread-all, Last, Settles, Adds}
-use Rattle.labels.proofs.Cover.{Covered, Covers, goes-more, first-best, none_left}
-use Rattle.measure.proofs.Ranking.{rank-dom, rank-trans, rank-self, rank-antisym, fit-dom}
-use Rattle.labels.proofs.Chains.{one-site, done_held, waits-held, held-cases, not-both, Same, same_from, chain-keep, chain-walk, chain-off}
+use Rattle.labels.proofs.Extending.{extend_made, extend_over, extend_keeps, rank_extend}
+use Rattle.labels.specs.Labels.{is_held, is_queued, is_settled, In, Held, Waits, Done, Off, Extends, Chain, path, Has, Kept, Spread, SpreadAll, Last, Settles, Adds}
+use Rattle.labels.proofs.Cover.{Covered, Covers, goes_more, first_best, none_left}
+use Rattle.measure.proofs.Ranking.{rank_dom, rank_trans, rank_self, rank_antisym, fit_dom}
+use Rattle.labels.proofs.Chains.{one_site, done_held, waits_held, held_cases, not_both, Same, same_from, chain_keep, chain_walk, chain_off}
 
-module _ {V L : Type 0} {K : Kind V L} (laws : Laws K) (l : L) (adm : Is (K.limit-admitted l)) (Lead : ℕ → ℕ → ℕ → V → Type 0) (links : (p s t : ℕ) (c : V) → Lead p s t c → Made K c) (k src dst : ℕ) where
+module _ {V L : Type 0} {K : Kind V L} (laws : Laws K) (l : L) (adm : Is (K.limit_admitted l)) (Lead : ℕ → ℕ → ℕ → V → Type 0) (links : (p s t : ℕ) (c : V) → Lead p s t c → Made K c) (k src dst : ℕ) where
   -- the label at h, of first rank among the queued, is settled
   module _ (A B : ℕ → Label V) (h : ℕ) (steps : Settles A B h) (waits : Waits A h) where
-    settle-same : (p : ℕ) → Same A B p
-    settle-same p =
+    settle_same : (p : ℕ) → Same A B p
+    settle_same p =
         ⊎_elim
         (λ e. subst (Same A B) (sym e) (record { value = ap (λ x. x.value) steps.here; previous = ap (λ x. x.previous) steps.here; link = ap (λ x. x.link) steps.here }))
         (λ ne. same_from A B p (steps.other p ne))
         (cases_eq p h)
 
-    pub settle-done : Done B h
-    settle-done = ap (λ x. isSettled x.state) steps.here
+    pub settle_done : Done B h
+    settle_done = ap (λ x. is_settled x.state) steps.here
 
-    pub settle-on : (p : ℕ) → Done A p → Done B p
-    settle-on p d =
+    pub settle_on : (p : ℕ) → Done A p → Done B p
+    settle_on p d =
         ⊎_elim
-        (λ e. subst (Done B) (sym e) settle-done)
-        (λ ne. subst (λ x. Is (isSettled x.state)) (sym (steps.other p ne)) d)
+        (λ e. subst (Done B) (sym e) settle_done)
+        (λ ne. subst (λ x. Is (is_settled x.state)) (sym (steps.other p ne)) d)
         (cases_eq p h)
 
-    settle-waits : (p : ℕ) → Waits B p → Waits A p
-    settle-waits p w =
+    settle_waits : (p : ℕ) → Waits B p → Waits A p
+    settle_waits p w =
         ⊎_elim
         (λ e. subst (Waits A) (sym e) waits)
-        (λ ne. subst (λ x. Is (isQueued x.state)) (steps.other p ne) w)
+        (λ ne. subst (λ x. Is (is_queued x.state)) (steps.other p ne) w)
         (cases_eq p h)
 
-    settle-back : (p : ℕ) → Done B p → Done A p ⊎ (p ≡ h)
-    settle-back p d = ⊎_elim inr (λ ne. inl (subst (λ x. Is (isSettled x.state)) (steps.other p ne) d)) (cases_eq p h)
+    settle_back : (p : ℕ) → Done B p → Done A p ⊎ (p ≡ h)
+    settle_back p d = ⊎_elim inr (λ ne. inl (subst (λ x. Is (is_settled x.state)) (steps.other p ne) d)) (cases_eq p h)
 
-    settle-held : (p : ℕ) → Held B p → Held A p
-    settle-held p d =
+    settle_held : (p : ℕ) → Held B p → Held A p
+    settle_held p d =
         ⊎_elim
-        (λ w. waits-held _ (settle-waits p w))
-        (λ d. ⊎_elim (done_held _) (λ e. subst (Held A) (sym e) (waits-held _ waits)) (settle-back p d))
-        (held-cases _ d)
+        (λ w. waits_held _ (settle_waits p w))
+        (λ d. ⊎_elim (done_held _) (λ e. subst (Held A) (sym e) (waits_held _ waits)) (settle_back p d))
+        (held_cases _ d)
 
-    settle-has : (t : ℕ) (w : V) → Has K l Lead k src dst A t w → Has K l Lead k src dst B t w
-    settle-has t w (p, at, held, d) = (
+    settle_has : (t : ℕ) (w : V) → Has K l Lead k src dst A t w → Has K l Lead k src dst B t w
+    settle_has t w (p, at, held, d) = (
       p,
       at,
       ⊎_elim
-          (λ e. subst (Held B) (sym e) (done_held _ settle-done))
+          (λ e. subst (Held B) (sym e) (done_held _ settle_done))
           (λ ne. subst (λ x. Is (is_held x.state)) (sym (steps.other p ne)) held)
           (cases_eq p h),
-      subst (λ x. Is (K.dominates x w)) (sym (settle-same p).value) d,
+      subst (λ x. Is (K.dominates x w)) (sym (settle_same p).value) d,
     )
 
     module _ (kept : Kept K l Lead k src dst A) (first : (q : ℕ) → Waits A q → ranks K l (A q).value (A h).value ≡ false) where
-      pub settle-kept : (In k dst h → ⊥) → Kept K l Lead k src dst B
-      settle-kept off = record {
-        fit = λ p held. subst (Fit K l) (sym (settle-same p).value) (kept.fit p (settle-held p held));
-        ordered = λ p q d w. subst₂ (λ x y. ranks K l x y ≡ false) (sym (settle-same q).value) (sym (settle-same p).value)
+      pub settle_kept : (In k dst h → ⊥) → Kept K l Lead k src dst B
+      settle_kept off = record {
+        fit = λ p held. subst (Fit K l) (sym (settle_same p).value) (kept.fit p (settle_held p held));
+        ordered = λ p q d w. subst₂ (λ x y. ranks K l x y ≡ false) (sym (settle_same q).value) (sym (settle_same p).value)
             (⊎_elim
-            (λ da. kept.ordered p q da (settle-waits q w))
-            (λ e. subst (λ x. ranks K l (A q).value (A x).value ≡ false) (sym e) (first q (settle-waits q w)))
-            (settle-back p d));
-        apart = λ s p q ap aq hp hq ne. subst₂ (λ x y. K.dominates x y ≡ false) (sym (settle-same p).value) (sym (settle-same q).value) (kept.apart s p q ap aq (settle-held p hp) (settle-held q hq) ne);
-        chained = λ p held. let (qs, c) = kept.chained p (settle-held p held) in (qs, chain-keep laws l Lead links k src dst A B (λ q d. (settle-same q, settle-on q d)) qs p (settle-same p) c);
-        start = settle-has src K.empty kept.start;
-        ahead = λ p at d. ⊎_elim (kept.ahead p at) (λ e. off (subst (In k dst) e at)) (settle-back p d);
+            (λ da. kept.ordered p q da (settle_waits q w))
+            (λ e. subst (λ x. ranks K l (A q).value (A x).value ≡ false) (sym e) (first q (settle_waits q w)))
+            (settle_back p d));
+        apart = λ s p q ap aq hp hq ne. subst₂ (λ x y. K.dominates x y ≡ false) (sym (settle_same p).value) (sym (settle_same q).value) (kept.apart s p q ap aq (settle_held p hp) (settle_held q hq) ne);
+        chained = λ p held. let (qs, c) = kept.chained p (settle_held p held) in (qs, chain_keep laws l Lead links k src dst A B (λ q d. (settle_same q, settle_on q d)) qs p (settle_same p) c);
+        start = settle_has src K.empty kept.start;
+        ahead = λ p at d. ⊎_elim (kept.ahead p at) (λ e. off (subst (In k dst) e at)) (settle_back p d);
       }
 
-      pub settle-last : Last K l Lead k src dst B h
-      settle-last p d =
-          subst₂ (λ x y. ranks K l x y ≡ false) (sym (settle-same h).value) (sym (settle-same p).value)
+      pub settle_last : Last K l Lead k src dst B h
+      settle_last p d =
+          subst₂ (λ x y. ranks K l x y ≡ false) (sym (settle_same h).value) (sym (settle_same p).value)
           (⊎_elim
           (λ da. kept.ordered p h da waits)
           (λ e. subst (λ x. ranks K l (A h).value (A x).value ≡ false) (sym e) (first h waits))
-          (settle-back p d))
+          (settle_back p d))
 
       -- where what every settled label reaches was held
-      pub settle-spread : Spread-all K l Lead k src dst A → Spread K l Lead k src dst B h 0
-      settle-spread all p s j t c d at lead low fits =
-          let e = (settle-same p).value in
+      pub settle_spread : SpreadAll K l Lead k src dst A → Spread K l Lead k src dst B h 0
+      settle_spread all p s j t c d at lead low fits =
+          let e = (settle_same p).value in
           subst (λ x. Has K l Lead k src dst B t (extend K x c)) (sym e)
           (⊎_elim
-          (λ da. settle-has t (extend K (A p).value c) (all p s j t c da at lead (subst (λ x. Is (K.within (extend K x c) l)) e fits)))
+          (λ da. settle_has t (extend K (A p).value c) (all p s j t c da at lead (subst (λ x. Is (K.within (extend K x c) l)) e fits)))
           (λ same. absurd (none j (low same)))
-          (settle-back p d))
+          (settle_back p d))
         where
           none : (j : ℕ) → j < 0 → ⊥
           none j h = omega arith
 
   -- the link at i brings nothing, or what it brings is held
-  pub skip-spread : (A : ℕ → Label V) (h i : ℕ) → Spread K l Lead k src dst A h i → ((s t : ℕ) (c : V) → In k s h → Lead i s t c → Is (K.within (extend K (A h).value c) l) → Has K l Lead k src dst A t (extend K (A h).value c)) → Spread K l Lead k src dst A h (i + 1)
-  skip-spread A h i spread here p s j t c d at lead low fits =
+  pub skip_spread : (A : ℕ → Label V) (h i : ℕ) → Spread K l Lead k src dst A h i → ((s t : ℕ) (c : V) → In k s h → Lead i s t c → Is (K.within (extend K (A h).value c) l) → Has K l Lead k src dst A t (extend K (A h).value c)) → Spread K l Lead k src dst A h (i + 1)
+  skip_spread A h i spread here p s j t c d at lead low fits =
       ⊎_elim
       (λ e. ⊎_elim
       (λ ji. subst (λ x. Has K l Lead k src dst A t (extend K (A x).value c)) (sym e) (here s t c (subst (In k s) e at) (subst (λ x. Lead x s t c) ji lead) (subst (λ x. Is (K.within (extend K (A x).value c) l)) e fits)))
@@ -115,25 +115,25 @@ module _ {V L : Type 0} {K : Kind V L} (laws : Laws K) (l : L) (adm : Is (K.limi
     abbrev n : V
     n = extend K (A h).value c
 
-    fit-h : Fit K l (A h).value
-    fit-h = kept.fit h (done_held _ done)
+    fit_h : Fit K l (A h).value
+    fit_h = kept.fit h (done_held _ done)
 
-    made-c : Made K c
-    made-c = links i s t c lead
+    made_c : Made K c
+    made_c = links i s t c lead
 
     fit_n : Fit K l n
-    fit_n = record { made = extend-made K (A h).value c fit-h.made made-c; within = fits }
+    fit_n = record { made = extend_made K (A h).value c fit_h.made made_c; within = fits }
 
     after : (p : ℕ) → Done A p → ranks K l n (A p).value ≡ false
-    after p d = rank-trans laws l adm (A p).value (A h).value n (kept.fit p (done_held _ d)) fit-h fit_n (last p d) (rank-extend laws l adm (A h).value c fit-h.made made-c fit_n)
+    after p d = rank_trans laws l adm (A p).value (A h).value n (kept.fit p (done_held _ d)) fit_h fit_n (last p d) (rank_extend laws l adm (A h).value c fit_h.made made_c fit_n)
 
     -- the newcomer dominates no settled label at its site
-    pub settled-stays : (p : ℕ) → In k t p → Done A p → K.dominates n (A p).value ≡ false
-    settled-stays p ap d =
+    pub settled_stays : (p : ℕ) → In k t p → Done A p → K.dominates n (A p).value ≡ false
+    settled_stays p ap d =
         ⊎_elim
         (λ yes. let fp = kept.fit p (done_held _ d) in
-        let e : (A p).value ≡ n = rank-antisym laws l adm (A p).value n fp fit_n (after p d) (rank-dom laws l adm n (A p).value fit_n fp yes) in
-        absurd (both_ways _ (fresh p ap (done_held _ d)) (subst (λ x. Is (K.dominates (A p).value x)) e (laws.dom-refl (A p).value fp.made))))
+        let e : (A p).value ≡ n = rank_antisym laws l adm (A p).value n fp fit_n (after p d) (rank_dom laws l adm n (A p).value fit_n fp yes) in
+        absurd (both_ways _ (fresh p ap (done_held _ d)) (subst (λ x. Is (K.dominates (A p).value x)) e (laws.dom_refl (A p).value fp.made))))
         (λ e. e)
         (cases_Bool (K.dominates n (A p).value))
 
@@ -159,15 +159,15 @@ module _ {V L : Type 0} {K : Kind V L} (laws : Laws K) (l : L) (adm : Is (K.limi
             let p = t * k + j in
             let held = (full p (inside j lt)).0 in
             let (qs, ch) = kept.chained p held in
-            (path K Lead k src A qs p, chain-walk laws l Lead links k src dst A qs p t (inside j lt) ch, (kept.fit p held).within)
+            (path K Lead k src A qs p, chain_walk laws l Lead links k src dst A qs p t (inside j lt) ch, (kept.fit p held).within)
 
         new : Walked n
         new =
             let (qs, ch) = kept.chained h (done_held _ done) in
-            (path K Lead k src A qs h ++ (i ∷ []), goes-more laws Lead links (path K Lead k src A qs h) src s t i K.empty (A h).value c (chain-walk laws l Lead links k src dst A qs h s at ch) lead, fits)
+            (path K Lead k src A qs h ++ (i ∷ []), goes_more laws Lead links (path K Lead k src A qs h) src s t i K.empty (A h).value c (chain_walk laws l Lead links k src dst A qs h s at ch) lead, fits)
 
-        not-over : (p : ℕ) → In k t p → K.dominates n (A p).value ≡ false
-        not-over p ap = ⊎_elim (full p ap).1 (settled-stays p ap) (held-cases _ (full p ap).0)
+        not_over : (p : ℕ) → In k t p → K.dominates n (A p).value ≡ false
+        not_over p ap = ⊎_elim (full p ap).1 (settled_stays p ap) (held_cases _ (full p ap).0)
 
         pick : (j m : ℕ) → j < suc k → m < suc k → (j ≡ m → ⊥) → (ltb j k ≡ true) ⊎ (ltb j k ≡ false) → (ltb m k ≡ true) ⊎ (ltb m k ≡ false) → K.dominates (value j) (value m) ≡ false
         pick j m lj lm ne (inl e) (inl f) =
@@ -179,29 +179,29 @@ module _ {V L : Type 0} {K : Kind V L} (laws : Laws K) (l : L) (adm : Is (K.limi
             subst₂ (λ x y. K.dominates (cond x (A (t * k + j)).value n) (cond y (A (t * k + m)).value n) ≡ false) (sym e) (sym f) (fresh (t * k + j) pj (full _ pj).0)
         pick j m lj lm ne (inr e) (inl f) =
             let pm = inside m (ltb-true m k f) in
-            subst₂ (λ x y. K.dominates (cond x (A (t * k + j)).value n) (cond y (A (t * k + m)).value n) ≡ false) (sym e) (sym f) (not-over (t * k + m) pm)
+            subst₂ (λ x y. K.dominates (cond x (A (t * k + j)).value n) (cond y (A (t * k + m)).value n) ≡ false) (sym e) (sym f) (not_over (t * k + m) pm)
         pick j m lj lm ne (inr e) (inr f) =
             let x = ltb-false j k e in
             let y = ltb-false m k f in
             absurd (ne (omega arith))
 
     module _ (C : ℕ → Label V) (x : ℕ) (adds : Adds K A C (t * k) (t * k + k) x (record { state = Queued; value = n; previous = h; link = i })) where
-      add-value : (C x).value ≡ n
-      add-value = ap (λ y. y.value) adds.new
+      add_value : (C x).value ≡ n
+      add_value = ap (λ y. y.value) adds.new
 
-      add-waits : Waits C x
-      add-waits = ap (λ y. isQueued y.state) adds.new
+      add_waits : Waits C x
+      add_waits = ap (λ y. is_queued y.state) adds.new
 
       -- a settled label stays as it is
       pub add_done : (p : ℕ) → Done A p → C p ≡ A p
       add_done p d =
           ⊎_elim
           (λ e. absurd (adds.free (subst (Done A) e d)))
-          (λ ne. ⊎_elim (λ e. e) (λ g. absurd (not-both _ g.2 d)) (adds.other p ne))
+          (λ ne. ⊎_elim (λ e. e) (λ g. absurd (not_both _ g.2 d)) (adds.other p ne))
           (cases_eq p x)
 
-      add-held : (p : ℕ) → Held C p → (p ≡ x) ⊎ ((p ≡ x → ⊥) × (C p ≡ A p))
-      add-held p held =
+      add_held : (p : ℕ) → Held C p → (p ≡ x) ⊎ ((p ≡ x → ⊥) × (C p ≡ A p))
+      add_held p held =
           ⊎_elim inl
           (λ ne. ⊎_elim (λ e. inr (ne, e)) (λ g. absurd (both_ways _ g.3 held)) (adds.other p ne))
           (cases_eq p x)
@@ -210,121 +210,121 @@ module _ {V L : Type 0} {K : Kind V L} (laws : Laws K) (l : L) (adm : Is (K.limi
       pub add_back : (p : ℕ) → Done C p → C p ≡ A p
       add_back p d =
           ⊎_elim
-          (λ e. absurd (not-both _ add-waits (subst (Done C) e d)))
+          (λ e. absurd (not_both _ add_waits (subst (Done C) e d)))
           (λ g. g.1)
-          (add-held p (done_held _ d))
+          (add_held p (done_held _ d))
 
-      add-done-back : (p : ℕ) → Done C p → Done A p
-      add-done-back p d = subst (λ y. Is (isSettled y.state)) (add_back p d) d
+      add_done_back : (p : ℕ) → Done C p → Done A p
+      add_done_back p d = subst (λ y. Is (is_settled y.state)) (add_back p d) d
 
-      add-done-on : (p : ℕ) → Done A p → Done C p
-      add-done-on p d = subst (λ y. Is (isSettled y.state)) (sym (add_done p d)) d
+      add_done_on : (p : ℕ) → Done A p → Done C p
+      add_done_on p d = subst (λ y. Is (is_settled y.state)) (sym (add_done p d)) d
 
-      add-has : (u : ℕ) (w : V) → Made K w → Has K l Lead k src dst A u w → Has K l Lead k src dst C u w
-      add-has u w mw (p, ap, held, d) =
+      add_has : (u : ℕ) (w : V) → Made K w → Has K l Lead k src dst A u w → Has K l Lead k src dst C u w
+      add_has u w mw (p, ap, held, d) =
           ⊎_elim
           (λ e. over (subst (In k u) e ap) (adds.gone (subst (Held A) e held)) (subst (λ y. Is (K.dominates (A y).value w)) e d) (kept.fit x (subst (Held A) e held)).made)
           (λ ne. ⊎_elim
           (λ e. (p, ap, subst (λ y. Is (is_held y.state)) (sym e) held, subst (λ y. Is (K.dominates y.value w)) (sym e) d))
-          (λ g. over (subst (λ y. In k y x) (one-site k t u p g.1 ap) adds.inside) g.0 d (kept.fit p held).made)
+          (λ g. over (subst (λ y. In k y x) (one_site k t u p g.1 ap) adds.inside) g.0 d (kept.fit p held).made)
           (adds.other p ne))
           (cases_eq p x)
         where
           over : {y : V} → In k u x → Is (K.dominates n y) → Is (K.dominates y w) → Made K y → Has K l Lead k src dst C u w
-          over {y} ux ny yw my = (x, ux, waits-held _ add-waits, subst (λ z. Is (K.dominates z w)) (sym add-value) (laws.dom-trans n y w fit_n.made my mw ny yw))
+          over {y} ux ny yw my = (x, ux, waits_held _ add_waits, subst (λ z. Is (K.dominates z w)) (sym add_value) (laws.dom_trans n y w fit_n.made my mw ny yw))
 
       pub add_kept : Kept K l Lead k src dst C
       add_kept = record {
-        fit = λ p held. ⊎_elim (λ e. subst (λ y. Fit K l (C y).value) (sym e) (subst (Fit K l) (sym add-value) fit_n)) (λ g. subst (λ y. Fit K l y.value) (sym g.1) (kept.fit p (subst (λ y. Is (is_held y.state)) g.1 held))) (add-held p held);
+        fit = λ p held. ⊎_elim (λ e. subst (λ y. Fit K l (C y).value) (sym e) (subst (Fit K l) (sym add_value) fit_n)) (λ g. subst (λ y. Fit K l y.value) (sym g.1) (kept.fit p (subst (λ y. Is (is_held y.state)) g.1 held))) (add_held p held);
         ordered = λ p q d w. subst (λ y. ranks K l (C q).value y.value ≡ false) (sym (add_back p d))
             (⊎_elim
-            (λ e. subst (λ y. ranks K l (C y).value (A p).value ≡ false) (sym e) (subst (λ y. ranks K l y (A p).value ≡ false) (sym add-value) (after p (add-done-back p d))))
-            (λ g. subst (λ y. ranks K l y.value (A p).value ≡ false) (sym g.1) (kept.ordered p q (add-done-back p d) (subst (λ y. Is (isQueued y.state)) g.1 w)))
-            (add-held q (waits-held _ w)));
-        apart = λ u p q pu qu hp hq ne. apart u p q pu qu hp hq ne (add-held p hp) (add-held q hq);
-        chained = λ p held. ⊎_elim (λ e. subst (λ y. (qs : List ℕ) × Chain K Lead k src C qs y) (sym e) chain-new) (λ g. let (qs, ch) = kept.chained p (subst (λ y. Is (is_held y.state)) g.1 held) in (qs, chain-keep laws l Lead links k src dst A C keep qs p (same_from A C p g.1) ch)) (add-held p held);
-        start = add-has src K.empty (made-empty) kept.start;
-        ahead = λ p ap d. kept.ahead p ap (add-done-back p d);
+            (λ e. subst (λ y. ranks K l (C y).value (A p).value ≡ false) (sym e) (subst (λ y. ranks K l y (A p).value ≡ false) (sym add_value) (after p (add_done_back p d))))
+            (λ g. subst (λ y. ranks K l y.value (A p).value ≡ false) (sym g.1) (kept.ordered p q (add_done_back p d) (subst (λ y. Is (is_queued y.state)) g.1 w)))
+            (add_held q (waits_held _ w)));
+        apart = λ u p q pu qu hp hq ne. apart u p q pu qu hp hq ne (add_held p hp) (add_held q hq);
+        chained = λ p held. ⊎_elim (λ e. subst (λ y. (qs : List ℕ) × Chain K Lead k src C qs y) (sym e) chain_new) (λ g. let (qs, ch) = kept.chained p (subst (λ y. Is (is_held y.state)) g.1 held) in (qs, chain_keep laws l Lead links k src dst A C keep qs p (same_from A C p g.1) ch)) (add_held p held);
+        start = add_has src K.empty (made_empty) kept.start;
+        ahead = λ p ap d. kept.ahead p ap (add_done_back p d);
       }
         where
           keep : (q : ℕ) → Done A q → Same A C q × Done C q
-          keep q d = (same_from A C q (add_done q d), add-done-on q d)
+          keep q d = (same_from A C q (add_done q d), add_done_on q d)
 
-          chain-new : (qs : List ℕ) × Chain K Lead k src C qs x
-          chain-new =
+          chain_new : (qs : List ℕ) × Chain K Lead k src C qs x
+          chain_new =
               let (qs, ch) = kept.chained h (done_held _ done) in
-              let off = chain-off laws l Lead links k src dst A (λ p held. (kept.fit p held).made) t n fit_n.made fresh qs h done (extend-over laws (A h).value c fit-h.made made-c) ch in (
+              let off = chain_off laws l Lead links k src dst A (λ p held. (kept.fit p held).made) t n fit_n.made fresh qs h done (extend_over laws (A h).value c fit_h.made made_c) ch in (
                 h ∷ qs,
                 (
                   ap (λ y. y.previous) adds.new,
-                  add-done-on h done,
+                  add_done_on h done,
                   record {
                     from = s;
                     to = t;
                     value = c;
-                    in-from = at;
-                    in-to = adds.inside;
+                    in_from = at;
+                    in_to = adds.inside;
                     leads = subst (λ y. Lead y s t c) (sym (ap (λ y. y.link) adds.new)) lead;
-                    joined = add-value ∙ ap (λ y. extend K y.value c) (sym (add_done h done));
+                    joined = add_value ∙ ap (λ y. extend K y.value c) (sym (add_done h done));
                   },
-                  λ u ux. subst (λ y. Off k y (h ∷ qs)) (one-site k t u x adds.inside ux) off,
-                  chain-keep laws l Lead links k src dst A C keep qs h (same_from A C h (add_done h done)) ch,
+                  λ u ux. subst (λ y. Off k y (h ∷ qs)) (one_site k t u x adds.inside ux) off,
+                  chain_keep laws l Lead links k src dst A C keep qs h (same_from A C h (add_done h done)) ch,
                 ),
               )
 
           apart : (u p q : ℕ) → In k u p → In k u q → Held C p → Held C q → (p ≡ q → ⊥) → (p ≡ x) ⊎ ((p ≡ x → ⊥) × (C p ≡ A p)) → (q ≡ x) ⊎ ((q ≡ x → ⊥) × (C q ≡ A q)) → K.dominates (C p).value (C q).value ≡ false
           apart u p q pu qu hp hq ne (inl e) (inl f) = absurd (ne (e ∙ sym f))
           apart u p q pu qu hp hq ne (inl e) (inr g) =
-              let qt : In k t q = subst (λ y. In k y q) (one-site k u t x (subst (In k u) e pu) adds.inside) qu in
-              subst (λ y. K.dominates (C y).value (C q).value ≡ false) (sym e) (subst (λ y. K.dominates y (C q).value ≡ false) (sym add-value)
+              let qt : In k t q = subst (λ y. In k y q) (one_site k u t x (subst (In k u) e pu) adds.inside) qu in
+              subst (λ y. K.dominates (C y).value (C q).value ≡ false) (sym e) (subst (λ y. K.dominates y (C q).value ≡ false) (sym add_value)
               (⊎_elim
               (λ w. adds.left q g.0 qt w)
-              (λ d. subst (λ y. K.dominates n y.value ≡ false) (sym g.1) (settled-stays q qt (add-done-back q d)))
-              (held-cases _ hq)))
+              (λ d. subst (λ y. K.dominates n y.value ≡ false) (sym g.1) (settled_stays q qt (add_done_back q d)))
+              (held_cases _ hq)))
           apart u p q pu qu hp hq ne (inr g) (inl f) =
-              let pt : In k t p = subst (λ y. In k y p) (one-site k u t x (subst (In k u) f qu) adds.inside) pu in
-              subst₂ (λ y z. K.dominates y.value (C z).value ≡ false) (sym g.1) (sym f) (subst (λ y. K.dominates (A p).value y ≡ false) (sym add-value) (fresh p pt (subst (λ y. Is (is_held y.state)) g.1 hp)))
+              let pt : In k t p = subst (λ y. In k y p) (one_site k u t x (subst (In k u) f qu) adds.inside) pu in
+              subst₂ (λ y z. K.dominates y.value (C z).value ≡ false) (sym g.1) (sym f) (subst (λ y. K.dominates (A p).value y ≡ false) (sym add_value) (fresh p pt (subst (λ y. Is (is_held y.state)) g.1 hp)))
           apart u p q pu qu hp hq ne (inr g) (inr f) =
               subst₂ (λ y z. K.dominates y.value z.value ≡ false) (sym g.1) (sym f.1) (kept.apart u p q pu qu (subst (λ y. Is (is_held y.state)) g.1 hp) (subst (λ y. Is (is_held y.state)) f.1 hq) ne)
 
-      pub add-last : Last K l Lead k src dst C h
-      add-last p d = subst₂ (λ y z. ranks K l y.value z.value ≡ false) (sym (add_done h done)) (sym (add_back p d)) (last p (add-done-back p d))
+      pub add_last : Last K l Lead k src dst C h
+      add_last p d = subst₂ (λ y z. ranks K l y.value z.value ≡ false) (sym (add_done h done)) (sym (add_back p d)) (last p (add_done_back p d))
 
       -- a place of the catalogue holds one link
-      pub add-spread : ((j s t s' t' : ℕ) (c c' : V) → Lead j s t c → Lead j s' t' c' → (t ≡ t') × (c ≡ c')) → Spread K l Lead k src dst A h i → Spread K l Lead k src dst C h (i + 1)
-      add-spread only spread p u j v b d ap ld low fit =
+      pub add_spread : ((j s t s' t' : ℕ) (c c' : V) → Lead j s t c → Lead j s' t' c' → (t ≡ t') × (c ≡ c')) → Spread K l Lead k src dst A h i → Spread K l Lead k src dst C h (i + 1)
+      add_spread only spread p u j v b d ap ld low fit =
           let e = add_back p d in
-          let da = add-done-back p d in
+          let da = add_done_back p d in
           let fit' = subst (λ y. Is (K.within (extend K y.value b) l)) e fit in
-          let mj = extend-made K (A p).value b (kept.fit p (done_held _ da)).made (links j u v b ld) in
+          let mj = extend_made K (A p).value b (kept.fit p (done_held _ da)).made (links j u v b ld) in
           subst (λ y. Has K l Lead k src dst C v (extend K y.value b)) (sym e)
           (⊎_elim
           (λ ph. ⊎_elim
           (λ ji. let (vt, bc) = only i s t u v c b lead (subst (λ y. Lead y u v b) ji ld) in
-          subst₂ (λ y z. Has K l Lead k src dst C y (extend K (A z).value b)) vt (sym ph) (subst (λ y. Has K l Lead k src dst C t (extend K (A h).value y)) bc held-n))
-          (λ ne. add-has v (extend K (A p).value b) mj (spread p u j v b da ap ld (λ e. let lt = low e in let less : j < i = omega arith in less) fit'))
+          subst₂ (λ y z. Has K l Lead k src dst C y (extend K (A z).value b)) vt (sym ph) (subst (λ y. Has K l Lead k src dst C t (extend K (A h).value y)) bc held_n))
+          (λ ne. add_has v (extend K (A p).value b) mj (spread p u j v b da ap ld (λ e. let lt = low e in let less : j < i = omega arith in less) fit'))
           (cases_eq j i))
-          (λ ne. add-has v (extend K (A p).value b) mj (spread p u j v b da ap ld (λ e. absurd (ne e)) fit'))
+          (λ ne. add_has v (extend K (A p).value b) mj (spread p u j v b da ap ld (λ e. absurd (ne e)) fit'))
           (cases_eq p h))
         where
-          held-n : Has K l Lead k src dst C t n
-          held-n = (x, adds.inside, waits-held _ add-waits, subst (λ y. Is (K.dominates y n)) (sym add-value) (laws.dom-refl n fit_n.made))
+          held_n : Has K l Lead k src dst C t n
+          held_n = (x, adds.inside, waits_held _ add_waits, subst (λ y. Is (K.dominates y n)) (sym add_value) (laws.dom_refl n fit_n.made))
 
 -- The end of the search, where what every settled label reaches is held.
-module _ {V L : Type 0} {K : Kind V L} (laws : Laws K) (l : L) (adm : Is (K.limit-admitted l)) (Lead : ℕ → ℕ → ℕ → V → Type 0) (links : (p s t : ℕ) (c : V) → Lead p s t c → Made K c) (k src dst : ℕ) (A : ℕ → Label V) (kept : Kept K l Lead k src dst A) (all : Spread-all K l Lead k src dst A) where
+module _ {V L : Type 0} {K : Kind V L} (laws : Laws K) (l : L) (adm : Is (K.limit_admitted l)) (Lead : ℕ → ℕ → ℕ → V → Type 0) (links : (p s t : ℕ) (c : V) → Lead p s t c → Made K c) (k src dst : ℕ) (A : ℕ → Label V) (kept : Kept K l Lead k src dst A) (all : SpreadAll K l Lead k src dst A) where
   abbrev At : (ℕ → Type 0) → ℕ → V → Type 0
   At P s v = (p : ℕ) × In k s p × P p × ((A p).value ≡ v)
 
-  table-has : (t : ℕ) (w : V) → Has K l Lead k src dst A t w → Covered K l Lead src (At (Waits A)) (At (Done A)) t w
-  table-has t w (p, ap, held, d) = ((A p).value, ⊎_elim (λ w. inl (p, ap, w, refl)) (λ d. inr (p, ap, d, refl)) (held-cases _ held), d)
+  table_has : (t : ℕ) (w : V) → Has K l Lead k src dst A t w → Covered K l Lead src (At (Waits A)) (At (Done A)) t w
+  table_has t w (p, ap, held, d) = ((A p).value, ⊎_elim (λ w. inl (p, ap, w, refl)) (λ d. inr (p, ap, d, refl)) (held_cases _ held), d)
 
-  table-covers : Covers K l Lead src (At (Waits A)) (At (Done A))
-  table-covers = record {
-    queued-fit = λ s v q. subst (Fit K l) q.3 (kept.fit q.0 (waits-held _ q.2));
-    settled-fit = λ s v q. subst (Fit K l) q.3 (kept.fit q.0 (done_held _ q.2));
-    start = table-has src K.empty kept.start;
+  table_covers : Covers K l Lead src (At (Waits A)) (At (Done A))
+  table_covers = record {
+    queued_fit = λ s v q. subst (Fit K l) q.3 (kept.fit q.0 (waits_held _ q.2));
+    settled_fit = λ s v q. subst (Fit K l) q.3 (kept.fit q.0 (done_held _ q.2));
+    start = table_has src K.empty kept.start;
     spread = λ s h q p t c lead fits.
-        table-has t (extend K h c)
+        table_has t (extend K h c)
         (subst (λ y. Has K l Lead k src dst A t (extend K y c)) q.3
         (all q.0 s p t c q.2 q.1 lead (subst (λ y. Is (K.within (extend K y c) l)) (sym q.3) fits)));
   }
@@ -335,33 +335,33 @@ module _ {V L : Type 0} {K : Kind V L} (laws : Laws K) (l : L) (adm : Is (K.limi
   -- the first queued label stands at the destination: its walk is best
   pub found_first : (p : ℕ) → Waits A p → ((q : ℕ) → Waits A q → ranks K l (A q).value (A p).value ≡ false) → First K l Lead src dst (A p).value
   found_first p w first =
-      first-best laws l adm Lead links src (At (Waits A)) (At (Done A)) table-covers dst (A p).value (kept.fit p (waits-held _ w)) none_done
+      first_best laws l adm Lead links src (At (Waits A)) (At (Done A)) table_covers dst (A p).value (kept.fit p (waits_held _ w)) none_done
       (λ s v q. subst (λ y. ranks K l y (A p).value ≡ false) q.3 (first q.0 q.2))
 
   -- no label is queued: no walk joins the ends
   pub nothing_left : ((q : ℕ) → Waits A q → ⊥) → Outside K l Lead src dst
-  nothing_left empty = none_left laws l adm Lead links src (At (Waits A)) (At (Done A)) table-covers dst none_done (λ s v q. empty q.0 q.2)
+  nothing_left empty = none_left laws l adm Lead links src (At (Waits A)) (At (Done A)) table_covers dst none_done (λ s v q. empty q.0 q.2)
 
 -- The first table: one label is held, at the source, with the value empty.
-module _ {V L : Type 0} {K : Kind V L} (laws : Laws K) (l : L) (adm : Is (K.limit-admitted l)) (Lead : ℕ → ℕ → ℕ → V → Type 0) (k src dst : ℕ) (A : ℕ → Label V) (x : ℕ) (at : In k src x) (here : A x ≡ record { state = Queued; value = K.empty; previous = x; link = 0 }) (other : (p : ℕ) → (p ≡ x → ⊥) → is_held (A p).state ≡ false) where
+module _ {V L : Type 0} {K : Kind V L} (laws : Laws K) (l : L) (adm : Is (K.limit_admitted l)) (Lead : ℕ → ℕ → ℕ → V → Type 0) (k src dst : ℕ) (A : ℕ → Label V) (x : ℕ) (at : In k src x) (here : A x ≡ record { state = Queued; value = K.empty; previous = x; link = 0 }) (other : (p : ℕ) → (p ≡ x → ⊥) → is_held (A p).state ≡ false) where
   only_x : (p : ℕ) → Held A p → p ≡ x
   only_x p held = ⊎_elim (λ e. e) (λ ne. absurd (both_ways _ (other p ne) held)) (cases_eq p x)
 
-  no-done : (p : ℕ) → Done A p → ⊥
-  no-done p d = not-both _ (ap (λ y. isQueued y.state) here) (subst (Done A) (only_x p (done_held _ d)) d)
+  no_done : (p : ℕ) → Done A p → ⊥
+  no_done p d = not_both _ (ap (λ y. is_queued y.state) here) (subst (Done A) (only_x p (done_held _ d)) d)
 
-  empty-at : (A x).value ≡ K.empty
-  empty-at = ap (λ y. y.value) here
+  empty_at : (A x).value ≡ K.empty
+  empty_at = ap (λ y. y.value) here
 
-  pub start-kept : Kept K l Lead k src dst A
-  start-kept = record {
-    fit = λ p held. subst (λ y. Fit K l (A y).value) (sym (only_x p held)) (subst (Fit K l) (sym empty-at) (record { made = made-empty; within = laws.empty-within l adm }));
-    ordered = λ p q d w. absurd (no-done p d);
+  pub start_kept : Kept K l Lead k src dst A
+  start_kept = record {
+    fit = λ p held. subst (λ y. Fit K l (A y).value) (sym (only_x p held)) (subst (Fit K l) (sym empty_at) (record { made = made_empty; within = laws.empty_within l adm }));
+    ordered = λ p q d w. absurd (no_done p d);
     apart = λ s p q sp sq hp hq ne. absurd (ne (only_x p hp ∙ sym (only_x q hq)));
-    chained = λ p held. ([], subst (λ y. Chain K Lead k src A [] y) (sym (only_x p held)) (at, empty-at, ap (λ y. y.previous) here));
-    start = (x, at, waits-held _ (ap (λ y. isQueued y.state) here), subst (λ y. Is (K.dominates y K.empty)) (sym empty-at) (laws.dom-refl K.empty (made-empty)));
-    ahead = λ p ap d. no-done p d;
+    chained = λ p held. ([], subst (λ y. Chain K Lead k src A [] y) (sym (only_x p held)) (at, empty_at, ap (λ y. y.previous) here));
+    start = (x, at, waits_held _ (ap (λ y. is_queued y.state) here), subst (λ y. Is (K.dominates y K.empty)) (sym empty_at) (laws.dom_refl K.empty (made_empty)));
+    ahead = λ p ap d. no_done p d;
   }
 
-  pub start-spread : Spread-all K l Lead k src dst A
-  start-spread p s j t c d at lead fits = absurd (no-done p d)
+  pub start_spread : SpreadAll K l Lead k src dst A
+  start_spread p s j t c d at lead fits = absurd (no_done p d)

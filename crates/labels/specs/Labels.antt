@@ -15,15 +15,15 @@ is_held Free = false
 is_held Queued = true
 is_held Settled = true
 
-abbrev pub isQueued : State → Bool
-isQueued Free = false
-isQueued Queued = true
-isQueued Settled = false
+abbrev pub is_queued : State → Bool
+is_queued Free = false
+is_queued Queued = true
+is_queued Settled = false
 
-abbrev pub isSettled : State → Bool
-isSettled Free = false
-isSettled Queued = false
-isSettled Settled = true
+abbrev pub is_settled : State → Bool
+is_settled Free = false
+is_settled Queued = false
+is_settled Settled = true
 
 -- the place p is one of the k places of the site s
 abbrev pub In : ℕ → ℕ → ℕ → Type 0
@@ -41,10 +41,10 @@ module _ {V : Type 0} (A : ℕ → Label V) where
   Held p = Is (is_held (A p).state)
 
   abbrev pub Waits : ℕ → Type 0
-  Waits p = Is (isQueued (A p).state)
+  Waits p = Is (is_queued (A p).state)
 
   abbrev pub Done : ℕ → Type 0
-  Done p = Is (isSettled (A p).state)
+  Done p = Is (is_settled (A p).state)
 
 -- none of the places is at the site t
 abbrev pub Off : ℕ → ℕ → List ℕ → Type 0
@@ -57,8 +57,8 @@ module _ {V L : Type 0} (K : Kind V L) (Lead : ℕ → ℕ → ℕ → V → Typ
     pub from : ℕ
     pub to : ℕ
     pub value : V
-    pub in-from : In k from q
-    pub in-to : In k to p
+    pub in_from : In k from q
+    pub in_to : In k to p
     pub leads : Lead (A p).link from to value
     pub joined : (A p).value ≡ extend K (A q).value value
 
@@ -89,8 +89,8 @@ module _ {V L : Type 0} (K : Kind V L) (l : L) (Lead : ℕ → ℕ → ℕ → V
   abbrev pub Spread : (ℕ → Label V) → ℕ → ℕ → Type 0
   Spread A h i = (p s j t : ℕ) (c : V) → Done A p → In k s p → Lead j s t c → (p ≡ h → j < i) → Is (K.within (extend K (A p).value c) l) → Has A t (extend K (A p).value c)
 
-  abbrev pub Spread-all : (ℕ → Label V) → Type 0
-  Spread-all A = (p s j t : ℕ) (c : V) → Done A p → In k s p → Lead j s t c → Is (K.within (extend K (A p).value c) l) → Has A t (extend K (A p).value c)
+  abbrev pub SpreadAll : (ℕ → Label V) → Type 0
+  SpreadAll A = (p s j t : ℕ) (c : V) → Done A p → In k s p → Lead j s t c → Is (K.within (extend K (A p).value c) l) → Has A t (extend K (A p).value c)
 
   -- no settled label ranks after the one at h
   abbrev pub Last : (ℕ → Label V) → ℕ → Type 0
@@ -122,8 +122,8 @@ module _ {V L : Type 0} (K : Kind V L) (l : L) (A : ℕ → Label V) where
     pub first : (q : ℕ) → q < i → Waits A q → ranks K l (A q).value (A b).value ≡ false
 
   -- r is the queued label of first rank among those below i
-  abbrev pub First-below : ℕ → Option ℕ → Type 0
-  First-below i r = MatchOption r ((q : ℕ) → q < i → Waits A q → ⊥) (Leader i)
+  abbrev pub FirstBelow : ℕ → Option ℕ → Type 0
+  FirstBelow i r = MatchOption r ((q : ℕ) → q < i → Waits A q → ⊥) (Leader i)
 
 -- the label x is held, and its value dominates v
 abbrev pub covers : {V L : Type 0} → Kind V L → V → Label V → Bool
@@ -131,7 +131,7 @@ covers K v x = is_held x.state && K.dominates x.value v
 
 -- the label x gives up its place to a newcomer of the value n
 abbrev pub yields : {V L : Type 0} → Kind V L → V → Label V → Bool
-yields K n x = isQueued x.state && K.dominates n x.value
+yields K n x = is_queued x.state && K.dominates n x.value
 
 abbrev pub freed : {V : Type 0} → Label V → Label V
 freed x = record { state = Free; value = x.value; previous = x.previous; link = x.link }
@@ -148,7 +148,7 @@ module _ {V L : Type 0} (K : Kind V L) (A B : ℕ → Label V) (n : V) where
 
 -- the same labels are settled in A and in B
 abbrev pub Steady : {V : Type 0} (A B : ℕ → Label V) → Type 0
-Steady A B = (p : ℕ) → isSettled (B p).state ≡ isSettled (A p).state
+Steady A B = (p : ℕ) → is_settled (B p).state ≡ is_settled (A p).state
 
 module _ {V L : Type 0} (K : Kind V L) (l : L) (cat : List (Option (Link V))) where
   -- the link at i takes the label at h, at the site, to the site t with the value n
@@ -159,8 +159,8 @@ module _ {V L : Type 0} (K : Kind V L) (l : L) (cat : List (Option (Link V))) wh
     pub within : Is (K.within n l)
 
   -- the link at i takes it nowhere within the limit
-  abbrev pub Offers-none : (ℕ → Label V) → ℕ → ℕ → ℕ → Type 0
-  Offers-none A h site i = (t : ℕ) (c : V) → Holds cat i site t c → K.within (extend K (A h).value c) l ≡ false
+  abbrev pub OffersNone : (ℕ → Label V) → ℕ → ℕ → ℕ → Type 0
+  OffersNone A h site i = (t : ℕ) (c : V) → Holds cat i site t c → K.within (extend K (A h).value c) l ≡ false
 
 module _ {V L : Type 0} (K : Kind V L) (l : L) (cat : List (Option (Link V))) (k src dst : ℕ) where
   -- the label at h, of the site, is settled last, and extended by the links below i
@@ -174,7 +174,7 @@ module _ {V L : Type 0} (K : Kind V L) (l : L) (cat : List (Option (Link V))) (k
   -- every settled label is extended by every link
   pub record Rests (A : ℕ → Label V) : Type 0 where
     pub kept : Kept K l (Holds cat) k src dst A
-    pub spread : Spread-all K l (Holds cat) k src dst A
+    pub spread : SpreadAll K l (Holds cat) k src dst A
 
   -- the queued label at p is at the destination, and no walk there ranks before its own
   pub record Wins (A : ℕ → Label V) (p : ℕ) : Type 0 where
@@ -184,9 +184,9 @@ module _ {V L : Type 0} (K : Kind V L) (l : L) (cat : List (Option (Link V))) (k
     pub first : First K l (Holds cat) src dst (A p).value
 
 -- whether what stands at a place is a link from the site
-abbrev pub starts-at : {V : Type 0} → ℕ → Option (Link V) → Bool
-starts-at site None = false
-starts-at site (Some link) = link.start == site
+abbrev pub starts_at : {V : Type 0} → ℕ → Option (Link V) → Bool
+starts_at site None = false
+starts_at site (Some link) = link.start == site
 
 -- the place p is the first from i on that holds a link from the site
 pub record Next {V : Type 0} (cat : List (Option (Link V))) (site i p : ℕ) : Type 0 where
@@ -195,8 +195,8 @@ pub record Next {V : Type 0} (cat : List (Option (Link V))) (site i p : ℕ) : T
   pub none : (j t : ℕ) (c : V) → i ≤ j → j < p → Holds cat j site t c → ⊥
 
 -- which place is next: none where no place from i on holds a link from the site
-abbrev pub Next-link : {V : Type 0} → List (Option (Link V)) → ℕ → ℕ → Option ℕ → Type 0
-Next-link {V} cat site i r = MatchOption r ((j t : ℕ) (c : V) → i ≤ j → Holds cat j site t c → ⊥) (Next cat site i)
+abbrev pub NextLink : {V : Type 0} → List (Option (Link V)) → ℕ → ℕ → Option ℕ → Type 0
+NextLink {V} cat site i r = MatchOption r ((j t : ℕ) (c : V) → i ≤ j → Holds cat j site t c → ⊥) (Next cat site i)
 
 -- no label below n is held
 abbrev pub Frees : {V : Type 0} → (ℕ → Label V) → ℕ → Type 0

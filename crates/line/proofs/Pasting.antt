@@ -6,8 +6,8 @@ pub wrote_none : (at : ℕ) (was : List ℕ) → Wrote [] at was was at
 wrote_none at was = (omega arith, sym (take-append-drop at was))
 
 -- one after the other is both at once
-pub wrote-more : (a b : List ℕ) (at m r : ℕ) (w0 w1 w2 : List ℕ) → at + length a ≤ length w0 → Wrote a at w0 w1 m → Wrote b m w1 w2 r → Wrote (a ++ b) at w0 w2 r
-wrote-more a b at m r w0 w1 w2 h p q =
+pub wrote_more : (a b : List ℕ) (at m r : ℕ) (w0 w1 w2 : List ℕ) → at + length a ≤ length w0 → Wrote a at w0 w1 m → Wrote b m w1 w2 r → Wrote (a ++ b) at w0 w2 r
+wrote_more a b at m r w0 w1 w2 h p q =
     let s = p.0 in
     let t = q.0 in
     let front = take at w0 ++ a in
@@ -20,5 +20,5 @@ wrote-more a b at m r w0 w1 w2 h p q =
       q.1 ∙ ap (λ (w : List ℕ). w ++ (b ++ drop r w1)) head ∙ ap (λ (w : List ℕ). front ++ (b ++ w)) tail ∙ append_assoc (take at w0) a (b ++ drop r w0) ∙ ap (λ (w : List ℕ). take at w0 ++ w) (sym (append_assoc a b (drop r w0))),
     )
 
-pub same-wrote : (at : ℕ) (was after : List ℕ) (r : ℕ) {a b : List ℕ} → a ≡ b → Wrote a at was after r → Wrote b at was after r
-same-wrote at was after r e p = subst (λ (xs : List ℕ). Wrote xs at was after r) e p
+pub same_wrote : (at : ℕ) (was after : List ℕ) (r : ℕ) {a b : List ℕ} → a ≡ b → Wrote a at was after r → Wrote b at was after r
+same_wrote at was after r e p = subst (λ (xs : List ℕ). Wrote xs at was after r) e p

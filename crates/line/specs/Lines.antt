@@ -8,9 +8,9 @@ use Rattle.report.specs.Refusals.{number as refusal-number, returned}
 use Rattle.line.specs.declared.Reply.{Reply}
 use Rattle.line.specs.declared.Reply.TheVariants.{Counted, Route, NoRoute, Refused}
 
-abbrev pub mark-word : Mark → List ℕ
-mark-word Standing = codes "standing"
-mark-word Doubtful = codes "doubtful"
+abbrev pub mark_word : Mark → List ℕ
+mark_word Standing = codes "standing"
+mark_word Doubtful = codes "doubtful"
 
 -- a ratio, as in 8/10
 abbrev pub share : Ratio → List ℕ
@@ -20,15 +20,15 @@ share r = decimal r.top ++ (codes "/" ++ decimal r.bottom)
 abbrev pub words : Reply → List ℕ → List (List ℕ)
 words (Counted n) legs = codes "ok" ∷ decimal n ∷ []
 words (Route mark ratio value) legs =
-    codes "route" ∷ mark-word mark ∷ share ratio
+    codes "route" ∷ mark_word mark ∷ share ratio
     ∷ decimal value.first.first.number ∷ decimal value.first.second.number ∷ decimal value.second.number
     ∷ decimal (length legs) ∷ map decimal legs
-words (NoRoute mark) legs = codes "none" ∷ mark-word mark ∷ []
+words (NoRoute mark) legs = codes "none" ∷ mark_word mark ∷ []
 words (Refused why) legs = codes "refused" ∷ decimal (refusal-number why) ∷ map decimal (returned why)
 
-abbrev pub after-space : List ℕ → List ℕ
-after-space word = codes " " ++ word
+abbrev pub after_space : List ℕ → List ℕ
+after_space word = codes " " ++ word
 
 -- the record's number, the words of the reply, each after one space, and a newline
 abbrev pub line_of : ℕ → Reply → List ℕ → List ℕ
-line_of number reply legs = decimal number ++ (flat_map after-space (words reply legs) ++ codes "\n")
+line_of number reply legs = decimal number ++ (flat_map after_space (words reply legs) ++ codes "\n")

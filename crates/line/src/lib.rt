@@ -1,6 +1,6 @@
 //! The lines that are printed, one for each record, composed as bytes in a lent buffer.
 ghost use Rattle.std.specs.Prelude.{◌≡◌, ◌+◌, ◌≤◌, [], map, length, decimal, nat_le};
-ghost use Rattle.line.specs.Lines.{mark-word, words, line_of};
+ghost use Rattle.line.specs.Lines.{mark_word, words, line_of};
 ghost use Rattle.line.specs.Parts.{spelled, At, Wrote};
 ghost use Rattle.report.specs.Buffers.{Put};
 
@@ -36,7 +36,7 @@ enum Word<'a> {
 }
 
 fn mark_text(mark: Mark) -> &'static [u8]
-    ensures { result.now ≡ mark-word mark }
+    ensures { result.now ≡ mark_word mark }
 {
     match mark {
         Mark::Standing => b"standing",

@@ -5,7 +5,7 @@ use Rattle.measure.specs.declared.ratio.Ratio.{Ratio}
 -- a kind with the values V and the limits L
 pub record Kind (V L : Type 0) : Type 0 where
   pub admitted : V → Bool
-  pub limit-admitted : L → Bool
+  pub limit_admitted : L → Bool
   pub empty : V
   pub join : V → V → V
   pub dominates : V → V → Bool
@@ -15,6 +15,6 @@ pub record Kind (V L : Type 0) : Type 0 where
 
 -- the values that can come about: the admitted ones, the empty one, and all that are joined from these
 pub data Made {V L : Type 0} (k : Kind V L) : V → Type 0 where
-  made-admitted : {a : V} → k.admitted a ≡ true → Made k a
-  made-empty : Made k k.empty
-  made-join : {a b : V} → Made k a → Made k b → Made k (k.join a b)
+  made_admitted : {a : V} → k.admitted a ≡ true → Made k a
+  made_empty : Made k k.empty
+  made_join : {a b : V} → Made k a → Made k b → Made k (k.join a b)

@@ -3,9 +3,9 @@ use Rattle.std.specs.Prelude.{◌≡◌, ℕ, ◌+◌, ◌≤◌, min, max, refl
 use Rattle.std.proofs.Common.{sym, ap, ◌∙◌, inl, inr, ⊎_elim, mul-le-mul_right, arith}
 use Rattle.measure.specs.declared.scalar.Sum.{Sum}
 use Rattle.measure.specs.declared.scalar.Worst.{Worst}
-use Rattle.measure.specs.Kind.{Kind, Made, made-admitted, made-empty, made-join}
+use Rattle.measure.specs.Kind.{Kind, Made, made_admitted, made_empty, made_join}
 use Rattle.measure.specs.Laws.{Laws, Proper}
-use Rattle.measure.specs.Scalars.{over, scalar-kind, sum, worst, sum-kind, worst-kind}
+use Rattle.measure.specs.Scalars.{over, scalar_kind, sum, worst, sum_kind, worst_kind}
 use Rattle.std.proofs.lemmas.Bool.Decides.{nat_tests}
 use Rattle.std.proofs.lemmas.Bool.{leb-true, le-leb, lt-ltb, cases_order}
 
@@ -24,10 +24,10 @@ record Joins (joined : ℕ → ℕ → ℕ) : Type 0 where
   before : (m n c : ℕ) → m ≤ n → joined c m ≤ joined c n
 
 module _ {V : Type 0} {number : V → ℕ} {value : ℕ → V} {joined : ℕ → ℕ → ℕ} (N : Numbered number value) (J : Joins joined) where
-  made-most : (a : V) → Made (scalar-kind number value joined) a → number a ≤ over
-  made-most a (made-admitted h) = grind (arith, nat_tests)
-  made-most a made-empty = omega (arith, N.back 0)
-  made-most _ (made-join {a = b} {b = c} p q) = omega (arith, N.back (joined (number b) (number c)))
+  made_most : (a : V) → Made (scalar_kind number value joined) a → number a ≤ over
+  made_most a (made_admitted h) = grind (arith, nat_tests)
+  made_most a made_empty = omega (arith, N.back 0)
+  made_most _ (made_join {a = b} {b = c} p q) = omega (arith, N.back (joined (number b) (number c)))
 
   least : number (value 0) ≡ 0
   least = omega (arith, N.back 0)
@@ -41,34 +41,34 @@ module _ {V : Type 0} {number : V → ℕ} {value : ℕ → V} {joined : ℕ →
   above : (a : V) (n : ℕ) → number a ≤ over → number a ≤ n → number a ≤ number (value n)
   above a n p h = omega (arith, N.back n)
 
-  scalar-laws : Laws (scalar-kind number value joined)
-  scalar-laws = record {
-    dom-refl = λ a p. le-leb _ _ (omega arith);
-    dom-trans = λ a b c p q r ab bc. grind (arith, nat_tests);
+  scalar_laws : Laws (scalar_kind number value joined)
+  scalar_laws = record {
+    dom_refl = λ a p. le-leb _ _ (omega arith);
+    dom_trans = λ a b c p q r ab bc. grind (arith, nat_tests);
     dom_same = λ a b p q ab ba. N.only a b (grind (arith, nat_tests));
-    empty-least = λ a p. le-leb _ _ (omega (arith, least));
-    empty-within = λ l p. le-leb _ _ (omega (arith, least));
-    empty_left = λ a p. neutral a _ (made-most a p) (ap (λ n. joined n (number a)) least ∙ J.left (number a));
-    empty_right = λ a p. neutral a _ (made-most a p) (ap (joined (number a)) least ∙ J.right (number a));
-    join-after = λ a b c p q r ab. le-leb _ _ (rises _ _ (J.after (number a) (number b) (number c) (leb-true _ _ ab)));
-    join-before = λ a b c p q r ab. le-leb _ _ (rises _ _ (J.before (number a) (number b) (number c) (leb-true _ _ ab)));
-    join_first = λ a b p q. le-leb _ _ (above a _ (made-most a p) (J.first (number a) (number b)));
-    join-second = λ a b p q. le-leb _ _ (above b _ (made-most b q) (J.second (number a) (number b)));
-    within-down = λ a b l p q ab w. grind (arith, nat_tests);
-    ratio-proper = λ a l p ok w. record { some = grind (arith, nat_tests); small = grind (arith, nat_tests); most = grind (arith, nat_tests) };
-    ratio-rises = λ a b l p q ok ab w. mul-le-mul_right l (leb-true (number a) (number b) ab);
-    before-never = λ a p. grind (arith, nat_tests);
-    before-trans = λ a b c p q r ab bc. grind (arith, nat_tests);
-    before-total = λ a b p q. ⊎_elim (λ e. inr (inl (N.only a b e))) (⊎_elim (λ h. inl (lt-ltb _ _ h)) (λ h. inr (inr (lt-ltb _ _ h)))) (cases_order (number a) (number b));
-    dom-before = λ a b p q ab. ⊎_elim (λ e. inr (N.only a b e)) (⊎_elim (λ h. inl (lt-ltb _ _ h)) (λ h. absurd (omega (arith, leb-true _ _ ab)))) (cases_order (number a) (number b));
+    empty_least = λ a p. le-leb _ _ (omega (arith, least));
+    empty_within = λ l p. le-leb _ _ (omega (arith, least));
+    empty_left = λ a p. neutral a _ (made_most a p) (ap (λ n. joined n (number a)) least ∙ J.left (number a));
+    empty_right = λ a p. neutral a _ (made_most a p) (ap (joined (number a)) least ∙ J.right (number a));
+    join_after = λ a b c p q r ab. le-leb _ _ (rises _ _ (J.after (number a) (number b) (number c) (leb-true _ _ ab)));
+    join_before = λ a b c p q r ab. le-leb _ _ (rises _ _ (J.before (number a) (number b) (number c) (leb-true _ _ ab)));
+    join_first = λ a b p q. le-leb _ _ (above a _ (made_most a p) (J.first (number a) (number b)));
+    join_second = λ a b p q. le-leb _ _ (above b _ (made_most b q) (J.second (number a) (number b)));
+    within_down = λ a b l p q ab w. grind (arith, nat_tests);
+    ratio_proper = λ a l p ok w. record { some = grind (arith, nat_tests); small = grind (arith, nat_tests); most = grind (arith, nat_tests) };
+    ratio_rises = λ a b l p q ok ab w. mul-le-mul_right l (leb-true (number a) (number b) ab);
+    before_never = λ a p. grind (arith, nat_tests);
+    before_trans = λ a b c p q r ab bc. grind (arith, nat_tests);
+    before_total = λ a b p q. ⊎_elim (λ e. inr (inl (N.only a b e))) (⊎_elim (λ h. inl (lt-ltb _ _ h)) (λ h. inr (inr (lt-ltb _ _ h)))) (cases_order (number a) (number b));
+    dom_before = λ a b p q ab. ⊎_elim (λ e. inr (N.only a b e)) (⊎_elim (λ h. inl (lt-ltb _ _ h)) (λ h. absurd (omega (arith, leb-true _ _ ab)))) (cases_order (number a) (number b));
   }
 
-pub sum-laws : Laws sum-kind
-sum-laws =
-    scalar-laws record { back = λ n. refl; only = λ a b e. ap (λ n. record { number = n }) e }
+pub sum_laws : Laws sum_kind
+sum_laws =
+    scalar_laws record { back = λ n. refl; only = λ a b e. ap (λ n. record { number = n }) e }
     record { left = λ n. omega arith; right = λ n. omega arith; first = λ m n. omega arith; second = λ m n. omega arith; after = λ m n c h. omega arith; before = λ m n c h. omega arith }
 
-pub worst-laws : Laws worst-kind
-worst-laws =
-    scalar-laws record { back = λ n. refl; only = λ a b e. ap (λ n. record { number = n }) e }
+pub worst_laws : Laws worst_kind
+worst_laws =
+    scalar_laws record { back = λ n. refl; only = λ a b e. ap (λ n. record { number = n }) e }
     record { left = λ n. omega arith; right = λ n. omega arith; first = λ m n. omega arith; second = λ m n. omega arith; after = λ m n c h. omega arith; before = λ m n c h. omega arith }

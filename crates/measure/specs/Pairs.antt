@@ -8,10 +8,10 @@ abbrev pub pair : {V W : Type 0} → V → W → Pair V W
 pair a b = record { first = a; second = b }
 
 -- the order is by the first part, then by the second; the ratio is the greater of the parts' ratios, the first part's where they are equal
-abbrev pub pair-kind : {V W L M : Type 0} → Kind V L → Kind W M → Kind (Pair V W) (Pair L M)
-pair-kind j k = record {
+abbrev pub pair_kind : {V W L M : Type 0} → Kind V L → Kind W M → Kind (Pair V W) (Pair L M)
+pair_kind j k = record {
   admitted = λ a. j.admitted a.first && k.admitted a.second;
-  limit-admitted = λ l. j.limit-admitted l.first && k.limit-admitted l.second;
+  limit_admitted = λ l. j.limit_admitted l.first && k.limit_admitted l.second;
   empty = pair j.empty k.empty;
   join = λ a b. pair (j.join a.first b.first) (k.join a.second b.second);
   dominates = λ a b. j.dominates a.first b.first && k.dominates a.second b.second;

@@ -4,19 +4,19 @@ use Rattle.measure.specs.declared.pair.Pair.{Pair}
 use Rattle.measure.specs.declared.scalar.Sum.{Sum}
 use Rattle.measure.specs.declared.scalar.Worst.{Worst}
 use Rattle.measure.specs.Kind.{Kind}
-use Rattle.measure.specs.Scalars.{sum, worst, sum-kind, worst-kind}
-use Rattle.measure.specs.Pairs.{pair, pair-kind}
+use Rattle.measure.specs.Scalars.{sum, worst, sum_kind, worst_kind}
+use Rattle.measure.specs.Pairs.{pair, pair_kind}
 
 -- delay, price and class
-abbrev pub trunk-kind : Kind (Pair (Pair Sum Sum) Worst) (Pair (Pair ℕ ℕ) ℕ)
-trunk-kind = pair-kind (pair-kind sum-kind sum-kind) worst-kind
+abbrev pub trunk_kind : Kind (Pair (Pair Sum Sum) Worst) (Pair (Pair ℕ ℕ) ℕ)
+trunk_kind = pair_kind (pair_kind sum_kind sum_kind) worst_kind
 
 abbrev pub trunk : ℕ → ℕ → ℕ → Pair (Pair Sum Sum) Worst
 trunk delay price class = pair (pair (sum delay) (sum price)) (worst class)
 
-abbrev pub trunk-limit : ℕ → ℕ → ℕ → Pair (Pair ℕ ℕ) ℕ
-trunk-limit delay price class = pair (pair delay price) class
+abbrev pub trunk_limit : ℕ → ℕ → ℕ → Pair (Pair ℕ ℕ) ℕ
+trunk_limit delay price class = pair (pair delay price) class
 
 -- delay alone
-abbrev pub loop-kind : Kind Sum ℕ
-loop-kind = sum-kind
+abbrev pub loop_kind : Kind Sum ℕ
+loop_kind = sum_kind

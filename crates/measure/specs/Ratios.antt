@@ -2,8 +2,8 @@
 use Rattle.std.specs.Prelude.{ℕ, ◌*◌, ◌≤◌, Bool, cond, ◌==◌, nat_lt}
 use Rattle.measure.specs.declared.ratio.Ratio.{Ratio}
 
-abbrev pub ratio-of : ℕ → ℕ → Ratio
-ratio-of top bottom = record { top = top; bottom = bottom }
+abbrev pub ratio_of : ℕ → ℕ → Ratio
+ratio_of top bottom = record { top = top; bottom = bottom }
 
 abbrev pub less : Ratio → Ratio → Bool
 less r s = nat_lt (r.top * s.bottom) (s.top * r.bottom)

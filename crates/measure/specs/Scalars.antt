@@ -3,27 +3,27 @@ use Rattle.std.specs.Prelude.{ℕ, ◌+◌, min, max, Bool, ◌&&◌, nat_le, na
 use Rattle.measure.specs.declared.scalar.Sum.{Sum}
 use Rattle.measure.specs.declared.scalar.Worst.{Worst}
 use Rattle.measure.specs.Kind.{Kind}
-use Rattle.measure.specs.Ratios.{ratio-of}
+use Rattle.measure.specs.Ratios.{ratio_of}
 
 -- the number of the value named over: it stands for every number from it on, comes last, and no limit allows it
 abbrev pub over : ℕ
 over = 2147483648
 
 -- an admitted limit: 1 to 2,147,483,647
-abbrev pub bounded-limit : ℕ → Bool
-bounded-limit l = nat_le 1 l && nat_lt l over
+abbrev pub bounded_limit : ℕ → Bool
+bounded_limit l = nat_le 1 l && nat_lt l over
 
 -- the kind over the values V, each made of a number, that joins numbers so
-abbrev pub scalar-kind : {V : Type 0} → (V → ℕ) → (ℕ → V) → (ℕ → ℕ → ℕ) → Kind V ℕ
-scalar-kind number value joined = record {
+abbrev pub scalar_kind : {V : Type 0} → (V → ℕ) → (ℕ → V) → (ℕ → ℕ → ℕ) → Kind V ℕ
+scalar_kind number value joined = record {
   admitted = λ a. nat_lt (number a) over;
-  limit-admitted = bounded-limit;
+  limit_admitted = bounded_limit;
   empty = value 0;
   join = λ a b. value (joined (number a) (number b));
   dominates = λ a b. nat_le (number a) (number b);
   before = λ a b. nat_lt (number a) (number b);
   within = λ a l. nat_le (number a) l;
-  ratio = λ a l. ratio-of (number a) l;
+  ratio = λ a l. ratio_of (number a) l;
 }
 
 -- a value of a number: over, from over on
@@ -34,9 +34,9 @@ abbrev pub worst : ℕ → Worst
 worst n = record { number = min n over }
 
 -- joined by adding
-abbrev pub sum-kind : Kind Sum ℕ
-sum-kind = scalar-kind (λ a. a.number) sum ◌+◌
+abbrev pub sum_kind : Kind Sum ℕ
+sum_kind = scalar_kind (λ a. a.number) sum ◌+◌
 
 -- joined by taking the greater number
-abbrev pub worst-kind : Kind Worst ℕ
-worst-kind = scalar-kind (λ a. a.number) worst max
+abbrev pub worst_kind : Kind Worst ℕ
+worst_kind = scalar_kind (λ a. a.number) worst max

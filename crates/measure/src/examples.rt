@@ -1,6 +1,6 @@
 //! Worked examples of the kinds, proved of the definitions and of the calls alike.
 ghost use Rattle.std.specs.Prelude.{◌≡◌, true};
-ghost use Rattle.measure.specs.Examples.{Worked-examples, sums as sumsOf, tens as tensOf};
+ghost use Rattle.measure.specs.Examples.{WorkedExamples, sums as sumsOf, tens as tensOf};
 
 use crate::pair::Pair;
 use crate::scalar::{Sum, Worst};
@@ -71,7 +71,7 @@ fn joins_agree() -> bool
 
 // Eight worked examples on sums, the worst of several, pairs, ratios and ranks hold of the definitions, and the calls answer so.
 pub fn worked_examples_hold() -> bool
-    ensures statement { Worked-examples }
+    ensures statement { WorkedExamples }
     ensures calls { result ≡ true }
 {
     ratios_agree() && orders_agree() && joins_agree()

@@ -24,7 +24,7 @@ pub trait Measure: Copy {
 
     // Whether a route may be asked for under this limit.
     fn limit_admitted(limit: Self::Limit) -> bool
-        ensures { result ≡ kind.limit-admitted limit };
+        ensures { result ≡ kind.limit_admitted limit };
 
     // The value of a walk with no links.
     fn empty() -> Self

@@ -1,8 +1,8 @@
 //! Two kinds side by side, and the products' kinds.
 ghost use Rattle.std.specs.Prelude.{◌≡◌};
-ghost use Rattle.measure.specs.Pairs.{pair-kind};
-ghost use Rattle.measure.specs.Products.{trunk, trunk-limit};
-ghost use Rattle.measure.specs.Paired.{pair-laws};
+ghost use Rattle.measure.specs.Pairs.{pair_kind};
+ghost use Rattle.measure.specs.Products.{trunk, trunk_limit};
+ghost use Rattle.measure.specs.Paired.{pair_laws};
 
 use crate::scalar::{Sum, Worst};
 use crate::{Measure, Ratio};
@@ -17,9 +17,9 @@ pub struct Pair<A, B> {
 impl<A: Measure, B: Measure> Measure for Pair<A, B> {
     type Limit = Pair<A::Limit, B::Limit>;
 
-    ghost kind = { pair-kind A.Measure.kind B.Measure.kind };
+    ghost kind = { pair_kind A.Measure.kind B.Measure.kind };
 
-    ghost lawful = { pair-laws A.Measure.lawful B.Measure.lawful };
+    ghost lawful = { pair_laws A.Measure.lawful B.Measure.lawful };
 
     fn admitted(self) -> bool {
         self.first.admitted() && self.second.admitted()
@@ -84,7 +84,7 @@ pub fn trunk_value(delay: u32, price: u32, class: u32) -> Trunk
 }
 
 pub fn trunk_limits(delay: u32, price: u32, class: u32) -> TrunkLimit
-    ensures { result ≡ trunk-limit delay price class }
+    ensures { result ≡ trunk_limit delay price class }
 {
     Pair {
         first: Pair {

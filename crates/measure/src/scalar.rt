@@ -1,7 +1,7 @@
 //! The two kinds whose values are single numbers: sums, and the worst of several.
 ghost use Rattle.std.specs.Prelude.{◌≡◌};
-ghost use Rattle.measure.specs.Scalars.{sum as sum_of, worst as worstOf, sum-kind, worst-kind, bounded-limit};
-ghost use Rattle.measure.specs.Numbers.{sum-laws, worst-laws};
+ghost use Rattle.measure.specs.Scalars.{sum as sum_of, worst as worstOf, sum_kind, worst_kind, bounded_limit};
+ghost use Rattle.measure.specs.Numbers.{sum_laws, worst_laws};
 
 use crate::{Measure, Ratio};
 
@@ -10,7 +10,7 @@ const OVER: u32 = 2147483648;
 
 // Whether a limit on a single number is admitted.
 fn is_limit(limit: u32) -> bool
-    ensures { result ≡ bounded-limit limit }
+    ensures { result ≡ bounded_limit limit }
 {
     1 <= limit && limit < OVER
 }
@@ -42,9 +42,9 @@ impl Sum {
 impl Measure for Sum {
     type Limit = u32;
 
-    ghost kind = { sum-kind };
+    ghost kind = { sum_kind };
 
-    ghost lawful = { sum-laws };
+    ghost lawful = { sum_laws };
 
     fn admitted(self) -> bool {
         self.number < OVER
@@ -109,9 +109,9 @@ impl Worst {
 impl Measure for Worst {
     type Limit = u32;
 
-    ghost kind = { worst-kind };
+    ghost kind = { worst_kind };
 
-    ghost lawful = { worst-laws };
+    ghost lawful = { worst_laws };
 
     fn admitted(self) -> bool {
         self.number < OVER

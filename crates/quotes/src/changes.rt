@@ -1,6 +1,6 @@
 //! The calls that change the catalogue's links, and put cards in doubt.
 ghost use Rattle.cards.specs.Calls.{Offered, Changed, Withdrawn};
-ghost use Rattle.book.specs.Stores.{network-of, book-of, Same-links, Same-places};
+ghost use Rattle.book.specs.Stores.{network_of, book_of, SameLinks, SamePlaces};
 
 use book::{QuoteBook, check_sites, spread};
 use catalogue::{Catalogue, Link, Links};
@@ -14,9 +14,9 @@ fn offer_link<M: Measure>(
     place: usize,
     link: Link<M>,
 ) -> Result<usize, Refusal>
-    ensures outcome { Offered M.Measure.kind (network-of catalogue.old) (book-of book.old) place link result (network-of catalogue.new) (book-of book.new) }
-    ensures links { Same-links catalogue.old catalogue.new }
-    ensures places { Same-places book.old book.new }
+    ensures outcome { Offered M.Measure.kind (network_of catalogue.old) (book_of book.old) place link result (network_of catalogue.new) (book_of book.new) }
+    ensures links { SameLinks catalogue.old catalogue.new }
+    ensures places { SamePlaces book.old book.new }
 {
     check_sites(&*catalogue, &*book)?;
     catalogue.store(place, link)?;
@@ -30,9 +30,9 @@ pub fn offer<M: Measure>(
     place: usize,
     link: Link<M>,
 ) -> Result<usize, Refusal>
-    ensures outcome { Offered M.Measure.kind (network-of catalogue.old) (book-of book.old) place link result (network-of catalogue.new) (book-of book.new) }
-    ensures links { Same-links catalogue.old catalogue.new }
-    ensures places { Same-places book.old book.new }
+    ensures outcome { Offered M.Measure.kind (network_of catalogue.old) (book_of book.old) place link result (network_of catalogue.new) (book_of book.new) }
+    ensures links { SameLinks catalogue.old catalogue.new }
+    ensures places { SamePlaces book.old book.new }
 {
     offer_link(catalogue, book, place, link)
 }
@@ -43,9 +43,9 @@ fn change_value<M: Measure>(
     place: usize,
     value: M,
 ) -> Result<usize, Refusal>
-    ensures outcome { Changed M.Measure.kind (network-of catalogue.old) (book-of book.old) place value result (network-of catalogue.new) (book-of book.new) }
-    ensures links { Same-links catalogue.old catalogue.new }
-    ensures places { Same-places book.old book.new }
+    ensures outcome { Changed M.Measure.kind (network_of catalogue.old) (book_of book.old) place value result (network_of catalogue.new) (book_of book.new) }
+    ensures links { SameLinks catalogue.old catalogue.new }
+    ensures places { SamePlaces book.old book.new }
 {
     check_sites(&*catalogue, &*book)?;
     let old = catalogue.replace(place, value)?;
@@ -66,9 +66,9 @@ pub fn change<M: Measure>(
     place: usize,
     value: M,
 ) -> Result<usize, Refusal>
-    ensures outcome { Changed M.Measure.kind (network-of catalogue.old) (book-of book.old) place value result (network-of catalogue.new) (book-of book.new) }
-    ensures links { Same-links catalogue.old catalogue.new }
-    ensures places { Same-places book.old book.new }
+    ensures outcome { Changed M.Measure.kind (network_of catalogue.old) (book_of book.old) place value result (network_of catalogue.new) (book_of book.new) }
+    ensures links { SameLinks catalogue.old catalogue.new }
+    ensures places { SamePlaces book.old book.new }
 {
     change_value(catalogue, book, place, value)
 }
@@ -78,9 +78,9 @@ fn withdraw_link<M: Measure>(
     book: &mut QuoteBook<'_, M, M::Limit>,
     place: usize,
 ) -> Result<usize, Refusal>
-    ensures outcome { Withdrawn M.Measure.kind (network-of catalogue.old) (book-of book.old) place result (network-of catalogue.new) (book-of book.new) }
-    ensures links { Same-links catalogue.old catalogue.new }
-    ensures places { Same-places book.old book.new }
+    ensures outcome { Withdrawn M.Measure.kind (network_of catalogue.old) (book_of book.old) place result (network_of catalogue.new) (book_of book.new) }
+    ensures links { SameLinks catalogue.old catalogue.new }
+    ensures places { SamePlaces book.old book.new }
 {
     check_sites(&*catalogue, &*book)?;
     catalogue.remove(place)?;
@@ -93,9 +93,9 @@ pub fn withdraw<M: Measure>(
     book: &mut QuoteBook<'_, M, M::Limit>,
     place: usize,
 ) -> Result<usize, Refusal>
-    ensures outcome { Withdrawn M.Measure.kind (network-of catalogue.old) (book-of book.old) place result (network-of catalogue.new) (book-of book.new) }
-    ensures links { Same-links catalogue.old catalogue.new }
-    ensures places { Same-places book.old book.new }
+    ensures outcome { Withdrawn M.Measure.kind (network_of catalogue.old) (book_of book.old) place result (network_of catalogue.new) (book_of book.new) }
+    ensures links { SameLinks catalogue.old catalogue.new }
+    ensures places { SamePlaces book.old book.new }
 {
     withdraw_link(catalogue, book, place)
 }

@@ -1,7 +1,7 @@
 //! One call after the other: whatever the calls were, what a standing card says is so.
 ghost use Rattle.std.specs.Prelude.{◌≡◌};
 ghost use Rattle.cards.specs.Runs.{lent, counted as countedReply, answered as answeredReply, emptied as emptiedReply, showing as showingReply, Outcome, Continues};
-ghost use Rattle.book.specs.Stores.{memory-of, Same-links, Same-places};
+ghost use Rattle.book.specs.Stores.{memory_of, SameLinks, SamePlaces};
 
 use crate::changes::{change, offer, withdraw};
 use book::{QuoteBook, discard, quote, read, recheck};
@@ -58,10 +58,10 @@ fn carry_out<M: Measure>(
     reply: &mut [u16],
     call: Call<M, M::Limit>,
 ) -> Reply<M>
-    ensures outcome { Outcome M.Measure.kind (memory-of catalogue.old book.old) (lent labels.old reply.old) call result (memory-of catalogue.new book.new) (lent labels.new reply.new) }
-    ensures no_better_route { Continues M.Measure.kind (memory-of catalogue.old book.old) call result (memory-of catalogue.new book.new) }
-    ensures links { Same-links catalogue.old catalogue.new }
-    ensures places { Same-places book.old book.new }
+    ensures outcome { Outcome M.Measure.kind (memory_of catalogue.old book.old) (lent labels.old reply.old) call result (memory_of catalogue.new book.new) (lent labels.new reply.new) }
+    ensures no_better_route { Continues M.Measure.kind (memory_of catalogue.old book.old) call result (memory_of catalogue.new book.new) }
+    ensures links { SameLinks catalogue.old catalogue.new }
+    ensures places { SamePlaces book.old book.new }
 {
     match call {
         Call::Offer { place, link } => counted(offer(catalogue, book, place, link)),
@@ -84,10 +84,10 @@ pub fn perform<M: Measure>(
     reply: &mut [u16],
     call: Call<M, M::Limit>,
 ) -> Reply<M>
-    ensures outcome { Outcome M.Measure.kind (memory-of catalogue.old book.old) (lent labels.old reply.old) call result (memory-of catalogue.new book.new) (lent labels.new reply.new) }
-    ensures no_better_route { Continues M.Measure.kind (memory-of catalogue.old book.old) call result (memory-of catalogue.new book.new) }
-    ensures links { Same-links catalogue.old catalogue.new }
-    ensures places { Same-places book.old book.new }
+    ensures outcome { Outcome M.Measure.kind (memory_of catalogue.old book.old) (lent labels.old reply.old) call result (memory_of catalogue.new book.new) (lent labels.new reply.new) }
+    ensures no_better_route { Continues M.Measure.kind (memory_of catalogue.old book.old) call result (memory_of catalogue.new book.new) }
+    ensures links { SameLinks catalogue.old catalogue.new }
+    ensures places { SamePlaces book.old book.new }
 {
     carry_out(catalogue, book, labels, reply, call)
 }

@@ -10,10 +10,10 @@ use Rattle.records.specs.declared.Record.TheVariants.{Offer, Change, Withdraw, Q
 use Rattle.records.specs.declared.Reading.{Reading}
 use Rattle.records.specs.declared.Reading.TheVariants.{Record, Nothing, Refused}
 use Rattle.report.specs.Buffers.{Put}
-use Rattle.records.specs.Feed.{body-length, number16, number32, measures-at, record_of, reading-of, unread-of, Reads, Ahead}
-use Rattle.records.specs.Write.{bytes16, bytes32, measures-bytes, encode, Fit, Fit-measures}
-use Rattle.records.specs.RoundTrip.{Reads-back, Writes-back, Reads-part, Written}
-use Rattle.records.proofs.Readings.{reads-record, reads-refused, reads_nothing, reads-placed, reads-within, reads-ahead}
+use Rattle.records.specs.Feed.{body_length, number16, number32, measures_at, record_of, reading_of, unread_of, Reads, Ahead}
+use Rattle.records.specs.Write.{bytes16, bytes32, measures_bytes, encode, Fit, FitMeasures}
+use Rattle.records.specs.RoundTrip.{ReadsBack, WritesBack, ReadsPart, Written}
+use Rattle.records.proofs.Readings.{reads_record, reads_refused, reads_nothing, reads_placed, reads_within, reads_ahead}
 
 -- a number from its bytes
 
@@ -38,41 +38,41 @@ steps n a b c p q r h =
 back32 : (n : ℕ) → n < 2 ^ 32 → n ≡ number32 (bytes32 n) 0
 back32 n h = steps n (n / 256) (n / 65536) (n / 16777216) refl (sym (shr-shr n 8 8)) (sym (shr-shr n 16 8)) h
 
-pub same-measures : (m : Measures) {d p c : ℕ} → m.delay ≡ d → m.price ≡ p → m.class ≡ c → m ≡ record { delay = d; price = p; class = c }
-same-measures m {d} {p} {c} e f g = simp (sym e, sym f, sym g)
+pub same_measures : (m : Measures) {d p c : ℕ} → m.delay ≡ d → m.price ≡ p → m.class ≡ c → m ≡ record { delay = d; price = p; class = c }
+same_measures m {d} {p} {c} e f g = simp (sym e, sym f, sym g)
 
-measures-back : (m : Measures) → Fit-measures m → m ≡ measures-at (measures-bytes m) 0
-measures-back m f = same-measures m (back32 m.delay f.0) (back32 m.price f.1) (back32 m.class f.2)
+measures_back : (m : Measures) → FitMeasures m → m ≡ measures_at (measures_bytes m) 0
+measures_back m f = same_measures m (back32 m.delay f.0) (back32 m.price f.1) (back32 m.class f.2)
 
 -- two records of one kind whose parts are the same
-pub same-change : {l l' : ℕ} {m m' : Measures} → l ≡ l' → m ≡ m' → Change l m ≡ Change l' m'
-same-change p q = cc
+pub same_change : {l l' : ℕ} {m m' : Measures} → l ≡ l' → m ≡ m' → Change l m ≡ Change l' m'
+same_change p q = cc
 
-pub same-long : (make : ℕ → ℕ → ℕ → Measures → Rec) {a a' b b' c c' : ℕ} {m m' : Measures}
+pub same_long : (make : ℕ → ℕ → ℕ → Measures → Rec) {a a' b b' c c' : ℕ} {m m' : Measures}
     → a ≡ a' → b ≡ b' → c ≡ c' → m ≡ m' → make a b c m ≡ make a' b' c' m'
-same-long make p q r s = cc
+same_long make p q r s = cc
 
 -- the bytes of a record of any kind: the kind, and a body of the kind's length
 back : (r : Rec) (rest : List ℕ) (place k n : ℕ)
-    → get_or (encode r ++ rest) 0 0 ≡ k → body-length k ≡ Some n → n < length (encode r ++ rest)
+    → get_or (encode r ++ rest) 0 0 ≡ k → body_length k ≡ Some n → n < length (encode r ++ rest)
     → drop (suc n) (encode r ++ rest) ≡ rest → r ≡ record_of k (encode r ++ rest)
-    → (reading-of (encode r ++ rest) place ≡ Record r) × (unread-of (encode r ++ rest) ≡ rest)
+    → (reading_of (encode r ++ rest) place ≡ Record r) × (unread_of (encode r ++ rest) ≡ rest)
 back r rest place k n e b h d q =
-    let s = reads-record (encode r ++ rest) place k n e b h q in (sym s.0, sym s.1 ∙ take_rest (encode r ++ rest) (suc n) ∙ d)
+    let s = reads_record (encode r ++ rest) place k n e b h q in (sym s.0, sym s.1 ∙ take_rest (encode r ++ rest) (suc n) ∙ d)
 
 -- a record's bytes read back as that record, and what follows them is left
-reads-back : (r : Rec) (rest : List ℕ) (place : ℕ) → Fit r → (reading-of (encode r ++ rest) place ≡ Record r) × (unread-of (encode r ++ rest) ≡ rest)
+reads_back : (r : Rec) (rest : List ℕ) (place : ℕ) → Fit r → (reading_of (encode r ++ rest) place ≡ Record r) × (unread_of (encode r ++ rest) ≡ rest)
 unfolding record_of
-reads-back (Offer l s e m) rest place f =
-    back (Offer l s e m) rest place 1 18 refl refl (omega arith) refl (same-long Offer (back16 l f.0) (back16 s f.1) (back16 e f.2) (measures-back m f.3))
-reads-back (Change l m) rest place f =
-    back (Change l m) rest place 2 14 refl refl (omega arith) refl (same-change (back16 l f.0) (measures-back m f.1))
-reads-back (Withdraw l) rest place f = back (Withdraw l) rest place 3 2 refl refl (omega arith) refl (ap Withdraw (back16 l f))
-reads-back (Quote c s d m) rest place f =
-    back (Quote c s d m) rest place 4 18 refl refl (omega arith) refl (same-long Quote (back16 c f.0) (back16 s f.1) (back16 d f.2) (measures-back m f.3))
-reads-back (Recheck c) rest place f = back (Recheck c) rest place 5 2 refl refl (omega arith) refl (ap Recheck (back16 c f))
-reads-back (Discard c) rest place f = back (Discard c) rest place 6 2 refl refl (omega arith) refl (ap Discard (back16 c f))
-reads-back (Read c) rest place f = back (Read c) rest place 7 2 refl refl (omega arith) refl (ap Read (back16 c f))
+reads_back (Offer l s e m) rest place f =
+    back (Offer l s e m) rest place 1 18 refl refl (omega arith) refl (same_long Offer (back16 l f.0) (back16 s f.1) (back16 e f.2) (measures_back m f.3))
+reads_back (Change l m) rest place f =
+    back (Change l m) rest place 2 14 refl refl (omega arith) refl (same_change (back16 l f.0) (measures_back m f.1))
+reads_back (Withdraw l) rest place f = back (Withdraw l) rest place 3 2 refl refl (omega arith) refl (ap Withdraw (back16 l f))
+reads_back (Quote c s d m) rest place f =
+    back (Quote c s d m) rest place 4 18 refl refl (omega arith) refl (same_long Quote (back16 c f.0) (back16 s f.1) (back16 d f.2) (measures_back m f.3))
+reads_back (Recheck c) rest place f = back (Recheck c) rest place 5 2 refl refl (omega arith) refl (ap Recheck (back16 c f))
+reads_back (Discard c) rest place f = back (Discard c) rest place 6 2 refl refl (omega arith) refl (ap Discard (back16 c f))
+reads_back (Read c) rest place f = back (Read c) rest place 7 2 refl refl (omega arith) refl (ap Read (back16 c f))
 
 -- a list by its numbers
 
@@ -108,8 +108,8 @@ split32 bs i by h =
     let e4 : i + 3 + 1 ≡ i + 4 = omega arith in
     cc
 
-split-measures : (bs : List ℕ) (i : ℕ) → Bytes bs → i + 11 < length bs → drop i bs ≡ measures-bytes (measures-at bs i) ++ drop (i + 12) bs
-split-measures bs i by h =
+split_measures : (bs : List ℕ) (i : ℕ) → Bytes bs → i + 11 < length bs → drop i bs ≡ measures_bytes (measures_at bs i) ++ drop (i + 12) bs
+split_measures bs i by h =
     let d = split32 bs i by (omega arith) in
     let p = split32 bs (i + 4) by (omega arith) in
     let c = split32 bs (i + 8) by (omega arith) in
@@ -121,110 +121,110 @@ head : (bs : List ℕ) (k : ℕ) → get_or bs 0 0 ≡ k → 0 < length bs → b
 head bs k e h = drop_more bs 0 0 h ∙ ap (λ x. x ∷ drop 1 bs) e
 
 -- the bytes of a kind with one number, of a change, and of a kind with three numbers and three measures
-split-short : (bs : List ℕ) (k : ℕ) → Bytes bs → get_or bs 0 0 ≡ k → 2 < length bs → bs ≡ (k ∷ bytes16 (number16 bs 1)) ++ drop 3 bs
-split-short bs k by e h = head bs k e (omega arith) ∙ ap (λ xs. k ∷ xs) (split16 bs 1 by (omega arith))
+split_short : (bs : List ℕ) (k : ℕ) → Bytes bs → get_or bs 0 0 ≡ k → 2 < length bs → bs ≡ (k ∷ bytes16 (number16 bs 1)) ++ drop 3 bs
+split_short bs k by e h = head bs k e (omega arith) ∙ ap (λ xs. k ∷ xs) (split16 bs 1 by (omega arith))
 
-split-change : (bs : List ℕ) (k : ℕ) → Bytes bs → get_or bs 0 0 ≡ k → 14 < length bs
-    → bs ≡ (k ∷ (bytes16 (number16 bs 1) ++ measures-bytes (measures-at bs 3))) ++ drop 15 bs
-split-change bs k by e h =
+split_change : (bs : List ℕ) (k : ℕ) → Bytes bs → get_or bs 0 0 ≡ k → 14 < length bs
+    → bs ≡ (k ∷ (bytes16 (number16 bs 1) ++ measures_bytes (measures_at bs 3))) ++ drop 15 bs
+split_change bs k by e h =
     head bs k e (omega arith)
     ∙ ap (λ xs. k ∷ xs) (split16 bs 1 by (omega arith)
-    ∙ ap (λ xs. bytes16 (number16 bs 1) ++ xs) (split-measures bs 3 by (omega arith)))
+    ∙ ap (λ xs. bytes16 (number16 bs 1) ++ xs) (split_measures bs 3 by (omega arith)))
 
-split-long : (bs : List ℕ) (k : ℕ) → Bytes bs → get_or bs 0 0 ≡ k → 18 < length bs
-    → bs ≡ (k ∷ (bytes16 (number16 bs 1) ++ (bytes16 (number16 bs 3) ++ (bytes16 (number16 bs 5) ++ measures-bytes (measures-at bs 7))))) ++ drop 19 bs
-split-long bs k by e h =
+split_long : (bs : List ℕ) (k : ℕ) → Bytes bs → get_or bs 0 0 ≡ k → 18 < length bs
+    → bs ≡ (k ∷ (bytes16 (number16 bs 1) ++ (bytes16 (number16 bs 3) ++ (bytes16 (number16 bs 5) ++ measures_bytes (measures_at bs 7))))) ++ drop 19 bs
+split_long bs k by e h =
     head bs k e (omega arith)
     ∙ ap (λ xs. k ∷ xs) (split16 bs 1 by (omega arith)
     ∙ ap (λ xs. bytes16 (number16 bs 1) ++ xs) (split16 bs 3 by (omega arith)
     ∙ ap (λ xs. bytes16 (number16 bs 3) ++ xs) (split16 bs 5 by (omega arith)
-    ∙ ap (λ xs. bytes16 (number16 bs 5) ++ xs) (split-measures bs 7 by (omega arith)))))
+    ∙ ap (λ xs. bytes16 (number16 bs 5) ++ xs) (split_measures bs 7 by (omega arith)))))
 
 -- a record is not read where its body is cut short or its kind unknown
-refused : {A : Type 0} (bs : List ℕ) (place : ℕ) (r : Rec) → reading-of bs place ≡ Record r → 0 < length bs → ((n : ℕ) → body-length (get_or bs 0 0) ≡ Some n → length bs ≤ n) → A
+refused : {A : Type 0} (bs : List ℕ) (place : ℕ) (r : Rec) → reading_of bs place ≡ Record r → 0 < length bs → ((n : ℕ) → body_length (get_or bs 0 0) ≡ Some n → length bs ≤ n) → A
 refused bs place r o h short =
-    let e = (reads-refused bs place (length bs - 1) (omega arith) (λ n b. omega (arith, short n b)) refl).0 in
+    let e = (reads_refused bs place (length bs - 1) (omega arith) (λ n b. omega (arith, short n b)) refl).0 in
     let z : ◌≡◌ {A = ℕ} 0 1 = cc in absurd (omega arith)
 
 some_same : (o : Option ℕ) {m n : ℕ} → o ≡ Some m → o ≡ Some n → m ≡ n
 some_same o p q = cc
 
-none-some : {A : Type 0} (o : Option ℕ) {n : ℕ} → o ≡ None → o ≡ Some n → A
-none-some o p q = let z : ◌≡◌ {A = ℕ} 0 1 = cc in absurd (omega arith)
+none_some : {A : Type 0} (o : Option ℕ) {n : ℕ} → o ≡ None → o ≡ Some n → A
+none_some o p q = let z : ◌≡◌ {A = ℕ} 0 1 = cc in absurd (omega arith)
 
 -- a record of any kind, if a whole body of the kind is written as it was read
 forth : (bs : List ℕ) (place : ℕ) (r : Rec) (k n : ℕ)
-    → reading-of bs place ≡ Record r → 0 < length bs → get_or bs 0 0 ≡ k → body-length k ≡ Some n
+    → reading_of bs place ≡ Record r → 0 < length bs → get_or bs 0 0 ≡ k → body_length k ≡ Some n
     → (n < length bs → bs ≡ encode (record_of k bs) ++ drop (suc n) bs)
-    → bs ≡ encode r ++ unread-of bs
+    → bs ≡ encode r ++ unread_of bs
 forth bs place r k n o h e b w =
     ⊎_elim
     (λ (l : n < length bs).
-    let s = reads-record bs place k n e b l refl in
+    let s = reads_record bs place k n e b l refl in
     let same : record_of k bs ≡ r = cc in
     w l ∙ ap (λ x. encode x ++ drop (suc n) bs) same ∙ ap (λ xs. encode r ++ xs) (sym (take_rest bs (suc n)) ∙ s.1))
-    (λ (l : length bs ≤ n). refused bs place r o h (λ m b'. let same : n ≡ m = some_same (body-length (get_or bs 0 0)) (ap body-length e ∙ b) b' in omega arith))
+    (λ (l : length bs ≤ n). refused bs place r o h (λ m b'. let same : n ≡ m = some_same (body_length (get_or bs 0 0)) (ap body_length e ∙ b) b' in omega arith))
     (cases_lt n (length bs))
 
 -- the kinds one by one
 either : {A : Type 0} (k i : ℕ) → (k ≡ i → A) → (eqb k i ≡ false → A) → A
 either k i same other = ⊎_elim same (λ n. other (ne_eqb k i n)) (cases_eq k i)
 
-by_kind : (bs : List ℕ) (place : ℕ) (r : Rec) (k : ℕ) → Bytes bs → reading-of bs place ≡ Record r → 0 < length bs → get_or bs 0 0 ≡ k → bs ≡ encode r ++ unread-of bs
+by_kind : (bs : List ℕ) (place : ℕ) (r : Rec) (k : ℕ) → Bytes bs → reading_of bs place ≡ Record r → 0 < length bs → get_or bs 0 0 ≡ k → bs ≡ encode r ++ unread_of bs
 unfolding record_of
 by_kind bs place r k by o h e =
-    either k 1 (λ i. forth bs place r 1 18 o h (e ∙ i) refl (split-long bs 1 by (e ∙ i))) (λ n1.
-    either k 2 (λ i. forth bs place r 2 14 o h (e ∙ i) refl (split-change bs 2 by (e ∙ i))) (λ n2.
-    either k 3 (λ i. forth bs place r 3 2 o h (e ∙ i) refl (split-short bs 3 by (e ∙ i))) (λ n3.
-    either k 4 (λ i. forth bs place r 4 18 o h (e ∙ i) refl (split-long bs 4 by (e ∙ i))) (λ n4.
-    either k 5 (λ i. forth bs place r 5 2 o h (e ∙ i) refl (split-short bs 5 by (e ∙ i))) (λ n5.
-    either k 6 (λ i. forth bs place r 6 2 o h (e ∙ i) refl (split-short bs 6 by (e ∙ i))) (λ n6.
-    either k 7 (λ i. forth bs place r 7 2 o h (e ∙ i) refl (split-short bs 7 by (e ∙ i))) (λ n7.
-    let none : body-length k ≡ None = simp (n1, n2, n3, n4, n5, n6, n7) in
-    refused bs place r o h (λ m b. none-some (body-length (get_or bs 0 0)) (ap body-length e ∙ none) b))))))))
+    either k 1 (λ i. forth bs place r 1 18 o h (e ∙ i) refl (split_long bs 1 by (e ∙ i))) (λ n1.
+    either k 2 (λ i. forth bs place r 2 14 o h (e ∙ i) refl (split_change bs 2 by (e ∙ i))) (λ n2.
+    either k 3 (λ i. forth bs place r 3 2 o h (e ∙ i) refl (split_short bs 3 by (e ∙ i))) (λ n3.
+    either k 4 (λ i. forth bs place r 4 18 o h (e ∙ i) refl (split_long bs 4 by (e ∙ i))) (λ n4.
+    either k 5 (λ i. forth bs place r 5 2 o h (e ∙ i) refl (split_short bs 5 by (e ∙ i))) (λ n5.
+    either k 6 (λ i. forth bs place r 6 2 o h (e ∙ i) refl (split_short bs 6 by (e ∙ i))) (λ n6.
+    either k 7 (λ i. forth bs place r 7 2 o h (e ∙ i) refl (split_short bs 7 by (e ∙ i))) (λ n7.
+    let none : body_length k ≡ None = simp (n1, n2, n3, n4, n5, n6, n7) in
+    refused bs place r o h (λ m b. none_some (body_length (get_or bs 0 0)) (ap body_length e ∙ none) b))))))))
 
 -- a record that was read has the bytes that it was read from
-writes-back : (bytes : List ℕ) (place : ℕ) (r : Rec) → Bytes bytes → reading-of bytes place ≡ Record r → bytes ≡ encode r ++ unread-of bytes
-writes-back [] place r by o =
+writes_back : (bytes : List ℕ) (place : ℕ) (r : Rec) → Bytes bytes → reading_of bytes place ≡ Record r → bytes ≡ encode r ++ unread_of bytes
+writes_back [] place r by o =
     let e = (reads_nothing [] place refl).0 in let z : ◌≡◌ {A = ℕ} 0 1 = cc in absurd (omega arith)
-writes-back (x ∷ body) place r by o = by_kind (x ∷ body) place r x by o (omega arith) refl
+writes_back (x ∷ body) place r by o = by_kind (x ∷ body) place r x by o (omega arith) refl
 
 -- what stands in the buffer after a write reads back
-put-reads-back : (r : Rec) (start : ℕ) (was is : List ℕ) (answer : Result ℕ Refusal)
-    → Fit r → Put (encode r) start was is answer → Reads-back r start is answer
-put-reads-back r start was is (Err why) f p = tt
-put-reads-back r start was is (Ok next) f p =
+put_reads_back : (r : Rec) (start : ℕ) (was is : List ℕ) (answer : Result ℕ Refusal)
+    → Fit r → Put (encode r) start was is answer → ReadsBack r start is answer
+put_reads_back r start was is (Err why) f p = tt
+put_reads_back r start was is (Ok next) f p =
     let l : length (take start was) ≡ start = simp length-take (omega arith) in
     let d : drop start is ≡ encode r ++ drop next was =
     ap (drop start) p.2 ∙ drop_at (take start was) _ start l in
-    let back = reads-back r (drop next was) start f in
+    let back = reads_back r (drop next was) start f in
     let n : length (take start was ++ encode r) ≡ next = simp length-append (omega arith) in
     let t : drop next is ≡ drop next was =
     ap (drop next) (p.2 ∙ sym (append_assoc (take start was) (encode r) (drop next was))) ∙ drop_at (take start was ++ encode r) (drop next was) next n in
-    (ap (λ xs. reading-of xs start) d ∙ back.0, ap unread-of d ∙ back.1 ∙ sym t)
+    (ap (λ xs. reading_of xs start) d ∙ back.0, ap unread_of d ∙ back.1 ∙ sym t)
 
 -- what is put as the bytes of a record whose numbers fit is written
 pub written : (r : Rec) (start : ℕ) (was is : List ℕ) (answer : Result ℕ Refusal) {bytes : List ℕ}
     → bytes ≡ encode r → Fit r → Put bytes start was is answer → Written r start was is answer
 written r start was is answer e f p =
     let q : Put (encode r) start was is answer = subst (λ (xs : List ℕ). Put xs start was is answer) e p in
-    record { put = q; reads-back = put-reads-back r start was is answer f q }
+    record { put = q; reads_back = put_reads_back r start was is answer f q }
 
 -- what was read is written as the same bytes
-read-writes-back : (reading : Reading) (bytes rest : List ℕ) (place : ℕ) → Bytes bytes → reading ≡ reading-of bytes place → rest ≡ unread-of bytes → Writes-back reading bytes rest
-read-writes-back (Record r) bytes rest place by e f = writes-back bytes place r by (sym e) ∙ ap (λ xs. encode r ++ xs) (sym f)
-read-writes-back Nothing bytes rest place by e f = tt
-read-writes-back (Refused why) bytes rest place by e f = tt
+read_writes_back : (reading : Reading) (bytes rest : List ℕ) (place : ℕ) → Bytes bytes → reading ≡ reading_of bytes place → rest ≡ unread_of bytes → WritesBack reading bytes rest
+read_writes_back (Record r) bytes rest place by e f = writes_back bytes place r by (sym e) ∙ ap (λ xs. encode r ++ xs) (sym f)
+read_writes_back Nothing bytes rest place by e f = tt
+read_writes_back (Refused why) bytes rest place by e f = tt
 
 -- a reading of a part, whose numbers are bytes, is one of every feed that has this part
-pub reads-part : {part : List ℕ} {place : ℕ} {reading : Reading} {rest : List ℕ}
-    → ((i : ℕ) → Fits w8 (get_or part i 0)) → Reads part place reading rest → Reads-part part place reading rest
-reads-part {part} {place} {reading} {rest} fits r =
+pub reads_part : {part : List ℕ} {place : ℕ} {reading : Reading} {rest : List ℕ}
+    → ((i : ℕ) → Fits w8 (get_or part i 0)) → Reads part place reading rest → ReadsPart part place reading rest
+reads_part {part} {place} {reading} {rest} fits r =
     record {
       reads = r.0;
       leaves = r.1;
-      writes-back = read-writes-back reading part rest place (λ i. let f = fits i in omega arith) r.0 r.1;
-      placed = λ input e. reads-placed input place rest (r.1 ∙ ap unread-of e);
-      within = λ input e. reads-within input place rest (r.1 ∙ ap unread-of e);
-      ahead = λ input e. reads-ahead input place reading rest (r.0 ∙ ap (λ xs. reading-of xs place) e) (r.1 ∙ ap unread-of e);
+      writes_back = read_writes_back reading part rest place (λ i. let f = fits i in omega arith) r.0 r.1;
+      placed = λ input e. reads_placed input place rest (r.1 ∙ ap unread_of e);
+      within = λ input e. reads_within input place rest (r.1 ∙ ap unread_of e);
+      ahead = λ input e. reads_ahead input place reading rest (r.0 ∙ ap (λ xs. reading_of xs place) e) (r.1 ∙ ap unread_of e);
     }

@@ -5,25 +5,25 @@ use Rattle.report.specs.Buffers.{Put}
 use Rattle.records.specs.declared.Record.{Record as Rec}
 use Rattle.records.specs.declared.Reading.{Reading}
 use Rattle.records.specs.declared.Reading.TheVariants.{Record, Nothing, Refused}
-use Rattle.records.specs.Feed.{reading-of, unread-of, Ahead}
+use Rattle.records.specs.Feed.{reading_of, unread_of, Ahead}
 use Rattle.records.specs.Write.{encode}
 
 -- what a buffer holds after a write reads back as the record from the start place on, and what followed it is left
-abbrev pub Reads-back : Rec → ℕ → List ℕ → Result ℕ Refusal → Type 0
-Reads-back r start buffer answer =
-    IfOk answer (λ next. (reading-of (drop start buffer) start ≡ Record r) × (unread-of (drop start buffer) ≡ drop next buffer))
+abbrev pub ReadsBack : Rec → ℕ → List ℕ → Result ℕ Refusal → Type 0
+ReadsBack r start buffer answer =
+    IfOk answer (λ next. (reading_of (drop start buffer) start ≡ Record r) × (unread_of (drop start buffer) ≡ drop next buffer))
 
 -- a record that was read is written as the bytes that it was read from, which end where the rest begins
-abbrev pub Writes-back : Reading → List ℕ → List ℕ → Type 0
-Writes-back (Record r) bytes rest = bytes ≡ encode r ++ rest
-Writes-back Nothing bytes rest = Unit {0}
-Writes-back (Refused why) bytes rest = Unit {0}
+abbrev pub WritesBack : Reading → List ℕ → List ℕ → Type 0
+WritesBack (Record r) bytes rest = bytes ≡ encode r ++ rest
+WritesBack Nothing bytes rest = Unit {0}
+WritesBack (Refused why) bytes rest = Unit {0}
 
 -- the reading of a part of a feed, and what it leaves unread; of every feed that has this part from the place on, the last three hold too
-pub record Reads-part (part : List ℕ) (place : ℕ) (reading : Reading) (rest : List ℕ) : Type 0 where
-  pub reads : reading ≡ reading-of part place
-  pub leaves : rest ≡ unread-of part
-  pub writes-back : Writes-back reading part rest
+pub record ReadsPart (part : List ℕ) (place : ℕ) (reading : Reading) (rest : List ℕ) : Type 0 where
+  pub reads : reading ≡ reading_of part place
+  pub leaves : rest ≡ unread_of part
+  pub writes_back : WritesBack reading part rest
   pub placed : (input : List ℕ) → part ≡ drop place input → rest ≡ drop (length input - length rest) input
   pub within : (input : List ℕ) → part ≡ drop place input → length rest ≤ length input
   pub ahead : (input : List ℕ) → part ≡ drop place input → Ahead reading (place + length rest) (length input)
@@ -31,4 +31,4 @@ pub record Reads-part (part : List ℕ) (place : ℕ) (reading : Reading) (rest 
 -- the record's bytes are put into the buffer from the start place on, and read back
 pub record Written (r : Rec) (start : ℕ) (was is : List ℕ) (answer : Result ℕ Refusal) : Type 0 where
   pub put : Put (encode r) start was is answer
-  pub reads-back : Reads-back r start is answer
+  pub reads_back : ReadsBack r start is answer

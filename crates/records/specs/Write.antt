@@ -11,27 +11,27 @@ bytes16 n = (n / 256 % 256) ∷ (n % 256) ∷ []
 abbrev pub bytes32 : ℕ → List ℕ
 bytes32 n = (n / 16777216 % 256) ∷ (n / 65536 % 256) ∷ (n / 256 % 256) ∷ (n % 256) ∷ []
 
-abbrev pub measures-bytes : Measures → List ℕ
-measures-bytes m = bytes32 m.delay ++ (bytes32 m.price ++ bytes32 m.class)
+abbrev pub measures_bytes : Measures → List ℕ
+measures_bytes m = bytes32 m.delay ++ (bytes32 m.price ++ bytes32 m.class)
 
 abbrev pub encode : Rec → List ℕ
-encode (Offer link start end m) = 1 ∷ (bytes16 link ++ (bytes16 start ++ (bytes16 end ++ measures-bytes m)))
-encode (Change link m) = 2 ∷ (bytes16 link ++ measures-bytes m)
+encode (Offer link start end m) = 1 ∷ (bytes16 link ++ (bytes16 start ++ (bytes16 end ++ measures_bytes m)))
+encode (Change link m) = 2 ∷ (bytes16 link ++ measures_bytes m)
 encode (Withdraw link) = 3 ∷ bytes16 link
-encode (Quote card source destination limits) = 4 ∷ (bytes16 card ++ (bytes16 source ++ (bytes16 destination ++ measures-bytes limits)))
+encode (Quote card source destination limits) = 4 ∷ (bytes16 card ++ (bytes16 source ++ (bytes16 destination ++ measures_bytes limits)))
 encode (Recheck card) = 5 ∷ bytes16 card
 encode (Discard card) = 6 ∷ bytes16 card
 encode (Read card) = 7 ∷ bytes16 card
 
 -- a record's numbers fit their widths, as those of a record that a program holds do
-abbrev pub Fit-measures : Measures → Type 0
-Fit-measures m = (m.delay < 2 ^ 32) × (m.price < 2 ^ 32) × (m.class < 2 ^ 32)
+abbrev pub FitMeasures : Measures → Type 0
+FitMeasures m = (m.delay < 2 ^ 32) × (m.price < 2 ^ 32) × (m.class < 2 ^ 32)
 
 abbrev pub Fit : Rec → Type 0
-Fit (Offer link start end m) = (link < 2 ^ 16) × (start < 2 ^ 16) × (end < 2 ^ 16) × Fit-measures m
-Fit (Change link m) = (link < 2 ^ 16) × Fit-measures m
+Fit (Offer link start end m) = (link < 2 ^ 16) × (start < 2 ^ 16) × (end < 2 ^ 16) × FitMeasures m
+Fit (Change link m) = (link < 2 ^ 16) × FitMeasures m
 Fit (Withdraw link) = link < 2 ^ 16
-Fit (Quote card source destination limits) = (card < 2 ^ 16) × (source < 2 ^ 16) × (destination < 2 ^ 16) × Fit-measures limits
+Fit (Quote card source destination limits) = (card < 2 ^ 16) × (source < 2 ^ 16) × (destination < 2 ^ 16) × FitMeasures limits
 Fit (Recheck card) = card < 2 ^ 16
 Fit (Discard card) = card < 2 ^ 16
 Fit (Read card) = card < 2 ^ 16

@@ -66,6 +66,6 @@ unless (Some why) answer = Err why
 unless None answer = answer
 
 -- what stands at a place, or this refusal where nothing does
-abbrev pub filled-or : {A : Type 0} → Refusal → Option A → Result A Refusal
-filled-or why None = Err why
-filled-or why (Some x) = Ok x
+abbrev pub filled_or : {A : Type 0} → Refusal → Option A → Result A Refusal
+filled_or why None = Err why
+filled_or why (Some x) = Ok x

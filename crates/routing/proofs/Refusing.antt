@@ -11,18 +11,18 @@ use Rattle.labels.specs.Labels.{table, Frees}
 use Rattle.routing.specs.declared.Ask.{Ask}
 use Rattle.routing.specs.declared.Route.{Route}
 use Rattle.routing.specs.Finds.{Admits}
-use Rattle.routing.specs.Searching.{route-causes, Answered, Searched}
+use Rattle.routing.specs.Searching.{route_causes, Answered, Searched}
 
-cond-none : {A : Type 0} (b : Bool) (x : A) (t : Option A) → cond b (Some x) t ≡ None → (b ≡ false) × (t ≡ None)
-cond-none true x t e = let z : ◌≡◌ {A = ℕ} 0 1 = cc in absurd (omega arith)
-cond-none false x t e = (refl, e)
+cond_none : {A : Type 0} (b : Bool) (x : A) (t : Option A) → cond b (Some x) t ≡ None → (b ≡ false) × (t ≡ None)
+cond_none true x t e = let z : ◌≡◌ {A = ℕ} 0 1 = cc in absurd (omega arith)
+cond_none false x t e = (refl, e)
 
-pub admits : {V L : Type 0} (K : Kind V L) (sites room k : ℕ) (ask : Ask L) (row : ℕ) → topmost (route-causes K sites room k ask row) ≡ None → Admits K sites room k ask row
+pub admits : {V L : Type 0} (K : Kind V L) (sites room k : ℕ) (ask : Ask L) (row : ℕ) → topmost (route_causes K sites room k ask row) ≡ None → Admits K sites room k ask row
 admits K sites room k ask row e =
-    let a = cond-none _ _ _ e in
-    let b = cond-none _ _ _ a.1 in
-    let c = cond-none _ _ _ b.1 in
-    let d = cond-none _ _ _ c.1 in
+    let a = cond_none _ _ _ e in
+    let b = cond_none _ _ _ a.1 in
+    let c = cond_none _ _ _ b.1 in
+    let d = cond_none _ _ _ c.1 in
     let ends = or_parts _ _ a.0 in
     let sizes = or_parts _ _ c.0 in
     let ks = or_parts _ _ sizes.1 in
@@ -45,15 +45,15 @@ module _ {V L : Type 0} (K : Kind V L) (sites : ℕ) (links : List (Option (Link
     | None ↦ Frees (table K labels') (length labels') × Answered K sites links k ask row row' r
   ]
 
-  refused-so : (why : Refusal) (t : Option Refusal) → ◌≡◌ {A = Result (Unit {0}) Refusal} (Err why) (unless t (Ok tt)) → Outcome labels row (Err why) t
-  refused-so why (Some other) e = (let z : why ≡ other = cc in ap Err z, refl, refl)
-  refused-so why None e = let z : ◌≡◌ {A = ℕ} 0 1 = cc in absurd (omega arith)
+  refused_so : (why : Refusal) (t : Option Refusal) → ◌≡◌ {A = Result (Unit {0}) Refusal} (Err why) (unless t (Ok tt)) → Outcome labels row (Err why) t
+  refused_so why (Some other) e = (let z : why ≡ other = cc in ap Err z, refl, refl)
+  refused_so why None e = let z : ◌≡◌ {A = ℕ} 0 1 = cc in absurd (omega arith)
 
-  pub searched-refused : (why : Refusal) → ◌≡◌ {A = Result (Unit {0}) Refusal} (Err why) (unless (topmost (route-causes K sites (length labels) k ask (length row))) (Ok tt)) → Searched K sites links k ask labels labels row row (Err why)
-  searched-refused why e = refused-so why _ e
+  pub searched_refused : (why : Refusal) → ◌≡◌ {A = Result (Unit {0}) Refusal} (Err why) (unless (topmost (route_causes K sites (length labels) k ask (length row))) (Ok tt)) → Searched K sites links k ask labels labels row row (Err why)
+  searched_refused why e = refused_so why _ e
 
-  pub searched-so : (labels' : List (Label V)) (row' : List ℕ) (r : Result (Option (Route V)) Refusal) → topmost (route-causes K sites (length labels) k ask (length row)) ≡ None → Frees (table K labels') (length labels') → Answered K sites links k ask row row' r → Searched K sites links k ask labels labels' row row' r
-  searched-so labels' row' r e free answered = subst (Outcome labels' row' r) (sym e) (free, answered)
+  pub searched_so : (labels' : List (Label V)) (row' : List ℕ) (r : Result (Option (Route V)) Refusal) → topmost (route_causes K sites (length labels) k ask (length row)) ≡ None → Frees (table K labels') (length labels') → Answered K sites links k ask row row' r → Searched K sites links k ask labels labels' row row' r
+  searched_so labels' row' r e free answered = subst (Outcome labels' row' r) (sym e) (free, answered)
 
-  pub searched-free : (labels' : List (Label V)) (row' : List ℕ) (r : Result (Option (Route V)) Refusal) → topmost (route-causes K sites (length labels) k ask (length row)) ≡ None → Searched K sites links k ask labels labels' row row' r → Frees (table K labels') (length labels') × Answered K sites links k ask row row' r
-  searched-free labels' row' r e h = subst (Outcome labels' row' r) e h
+  pub searched_free : (labels' : List (Label V)) (row' : List ℕ) (r : Result (Option (Route V)) Refusal) → topmost (route_causes K sites (length labels) k ask (length row)) ≡ None → Searched K sites links k ask labels labels' row row' r → Frees (table K labels') (length labels') × Answered K sites links k ask row row' r
+  searched_free labels' row' r e h = subst (Outcome labels' row' r) e h

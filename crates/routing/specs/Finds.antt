@@ -13,28 +13,28 @@ use Rattle.routing.specs.declared.Found.{Found}
 use Rattle.routing.specs.declared.Found.TheVariants.{Nowhere, Full, At}
 
 -- what the end of routing says, where the labels are those of A
-abbrev pub Ends-so : {V L : Type 0} → Kind V L → L → List (Option (Link V)) → ℕ → ℕ → ℕ → (ℕ → Label V) → Found → Type 0
-Ends-so K l cat k src dst A Nowhere = Outside K l (Holds cat) src dst
-Ends-so K l cat k src dst A (Full t) = Crowded K l (Holds cat) k src t
-Ends-so K l cat k src dst A (At p) = Wins K l cat k src dst A p
+abbrev pub EndsSo : {V L : Type 0} → Kind V L → L → List (Option (Link V)) → ℕ → ℕ → ℕ → (ℕ → Label V) → Found → Type 0
+EndsSo K l cat k src dst A Nowhere = Outside K l (Holds cat) src dst
+EndsSo K l cat k src dst A (Full t) = Crowded K l (Holds cat) k src t
+EndsSo K l cat k src dst A (At p) = Wins K l cat k src dst A p
 
 -- a link as a catalogue of so many sites may hold it
-abbrev pub sound-link : {V L : Type 0} → Kind V L → ℕ → Link V → Bool
-sound-link K sites link = nat_lt link.start sites && (nat_lt link.end sites && (not (link.start == link.end) && K.admitted link.value))
+abbrev pub sound_link : {V L : Type 0} → Kind V L → ℕ → Link V → Bool
+sound_link K sites link = nat_lt link.start sites && (nat_lt link.end sites && (not (link.start == link.end) && K.admitted link.value))
 
 -- what stands at a place is no link, or such a link
-abbrev pub sound-at : {V L : Type 0} → Kind V L → ℕ → Option (Link V) → Bool
-sound-at K sites None = true
-sound-at K sites (Some link) = sound-link K sites link
+abbrev pub sound_at : {V L : Type 0} → Kind V L → ℕ → Option (Link V) → Bool
+sound_at K sites None = true
+sound_at K sites (Some link) = sound_link K sites link
 
 -- the row has these legs, then zeros: a walk from s to t of the value w that comes by no site twice
-abbrev pub Wrote-legs : {V L : Type 0} → Kind V L → List (Option (Link V)) → ℕ → ℕ → V → ℕ → List ℕ → ℕ → Type 0
-Wrote-legs K cat s t w n row r = (legs : List ℕ) × (row ≡ row_of legs n) × (r ≡ length legs) × Walk K (Holds cat) s legs t w × Simple (Holds cat) s legs
+abbrev pub WroteLegs : {V L : Type 0} → Kind V L → List (Option (Link V)) → ℕ → ℕ → V → ℕ → List ℕ → ℕ → Type 0
+WroteLegs K cat s t w n row r = (legs : List ℕ) × (row ≡ row_of legs n) × (r ≡ length legs) × Walk K (Holds cat) s legs t w × Simple (Holds cat) s legs
 
 -- what a call that is not refused knows of its arguments
 pub record Admits {V L : Type 0} (K : Kind V L) (sites room k : ℕ) (ask : Ask L) (row : ℕ) : Type 0 where
   pub source : ask.source < sites
-  pub limit : Is (K.limit-admitted ask.limit)
+  pub limit : Is (K.limit_admitted ask.limit)
   pub size : room ≡ sites * k
   pub some : 0 < k
   pub fits : sites ≤ row

@@ -13,15 +13,15 @@ use Rattle.routing.specs.declared.Ask.{Ask}
 use Rattle.routing.specs.declared.Route.{Route}
 
 -- the workspace is not k labels a site, or k is not from 1 to 64
-abbrev pub ill-sized : ℕ → ℕ → ℕ → Bool
-ill-sized sites room k = not (room == sites * k) || (nat_lt k 1 || nat_lt 64 k)
+abbrev pub ill_sized : ℕ → ℕ → ℕ → Bool
+ill_sized sites room k = not (room == sites * k) || (nat_lt k 1 || nat_lt 64 k)
 
 -- why a call is refused before it begins: an end is no site, the limit is not admitted, the workspace is not k labels a site with k from
 -- 1 to 64, or the row has fewer numbers than there are sites
-abbrev pub route-causes : {V L : Type 0} → Kind V L → ℕ → ℕ → ℕ → Ask L → ℕ → List (Bool × Refusal)
-route-causes K sites room k ask row =
-    (nat_le sites ask.source || nat_le sites ask.destination, NoSuchSite) ∷ (not (K.limit-admitted ask.limit), LimitNotAdmitted)
-    ∷ (ill-sized sites room k, WorkspaceSize) ∷ (nat_lt row sites, ReplyTooShort) ∷ []
+abbrev pub route_causes : {V L : Type 0} → Kind V L → ℕ → ℕ → ℕ → Ask L → ℕ → List (Bool × Refusal)
+route_causes K sites room k ask row =
+    (nat_le sites ask.source || nat_le sites ask.destination, NoSuchSite) ∷ (not (K.limit_admitted ask.limit), LimitNotAdmitted)
+    ∷ (ill_sized sites room k, WorkspaceSize) ∷ (nat_lt row sites, ReplyTooShort) ∷ []
 
 -- a row with these legs, then zeros
 abbrev pub row_of : List ℕ → ℕ → List ℕ
@@ -42,7 +42,7 @@ Answered K sites links k ask was is (Err why) =
 -- the full outcome: a refusal leaves all as it was; otherwise every label is free at the end, and the answer is right
 abbrev pub Searched : {V L : Type 0} → Kind V L → ℕ → List (Option (Link V)) → ℕ → Ask L → List (Label V) → List (Label V) → List ℕ → List ℕ → Result (Option (Route V)) Refusal → Type 0
 Searched K sites links k ask labels labels' row row' r =
-    elim (topmost (route-causes K sites (length labels) k ask (length row))) [
+    elim (topmost (route_causes K sites (length labels) k ask (length row))) [
       | Some why ↦ (r ≡ Err why) × (labels' ≡ labels) × (row' ≡ row)
       | None ↦ Frees (table K labels') (length labels') × Answered K sites links k ask row row' r
     ]

@@ -5,9 +5,9 @@ ghost use Rattle.report.specs.Refusals.{topmost, unless};
 ghost use Rattle.catalogue.specs.Walks.{Holds, Walk, Simple};
 ghost use Rattle.catalogue.specs.Routes.{Sound};
 ghost use Rattle.labels.specs.Labels.{blank, table, In, Held, Kept, Rests};
-ghost use Rattle.routing.specs.Finds.{Ends-so, sound-link, sound-at, Wrote-legs, Admits};
+ghost use Rattle.routing.specs.Finds.{EndsSo, sound_link, sound_at, WroteLegs, Admits};
 ghost use Rattle.catalogue.specs.Places.{at as place_at};
-ghost use Rattle.routing.specs.Searching.{ill-sized, route-causes, Answered, Searched};
+ghost use Rattle.routing.specs.Searching.{ill_sized, route_causes, Answered, Searched};
 
 use catalogue::{Link, Links};
 use labels::{Label, State};
@@ -57,7 +57,7 @@ pub fn free_label<M: Measure>() -> Label<M>
 
 // Whether the link may stand in a catalogue of so many sites.
 fn is_sound_link<M: Measure>(sites: usize, link: Link<M>) -> bool
-    ensures { result ≡ sound-link M.Measure.kind sites link }
+    ensures { result ≡ sound_link M.Measure.kind sites link }
 {
     (link.start as usize) < sites
         && (link.end as usize) < sites
@@ -67,7 +67,7 @@ fn is_sound_link<M: Measure>(sites: usize, link: Link<M>) -> bool
 
 // Whether the place is empty or holds such a link.
 fn is_sound_at<M: Measure, N: Links<M>>(network: &N, sites: usize, place: usize) -> bool
-    ensures { result ≡ sound-at M.Measure.kind sites (place_at (N.Links.links network.now) place) }
+    ensures { result ≡ sound_at M.Measure.kind sites (place_at (N.Links.links network.now) place) }
 {
     match network.link(place) {
         Some(link) => is_sound_link(sites, link),
@@ -101,12 +101,12 @@ fn run<M: Measure, N: Links<M>>(
     ends: Ends,
     limit: M::Limit,
 ) -> Found
-    requires admitted { Is (M.Measure.kind.limit-admitted limit) }
+    requires admitted { Is (M.Measure.kind.limit_admitted limit) }
     requires sound { Sound M.Measure.kind (N.Links.span network.now) (N.Links.links network.now) }
     requires size { length labels.old ≡ N.Links.span network.now * k }
     requires some { 0 < k }
     requires rests { Rests M.Measure.kind limit (N.Links.links network.now) k ends.from ends.to (table M.Measure.kind labels.old) }
-    ensures { Ends-so M.Measure.kind limit (N.Links.links network.now) k ends.from ends.to (table M.Measure.kind labels.new) result }
+    ensures { EndsSo M.Measure.kind limit (N.Links.links network.now) k ends.from ends.to (table M.Measure.kind labels.new) result }
 {
     while let Some(h) = first_queued(labels, limit) {
         let site = h / k;
@@ -129,12 +129,12 @@ fn explore<M: Measure, N: Links<M>>(
     ends: Ends,
     limit: M::Limit,
 ) -> Found
-    requires admitted { Is (M.Measure.kind.limit-admitted limit) }
+    requires admitted { Is (M.Measure.kind.limit_admitted limit) }
     requires sound { Sound M.Measure.kind (N.Links.span network.now) (N.Links.links network.now) }
     requires size { length labels.old ≡ N.Links.span network.now * k }
     requires some { 0 < k }
     requires source { ends.from < N.Links.span network.now }
-    ensures { Ends-so M.Measure.kind limit (N.Links.links network.now) k ends.from ends.to (table M.Measure.kind labels.new) result }
+    ensures { EndsSo M.Measure.kind limit (N.Links.links network.now) k ends.from ends.to (table M.Measure.kind labels.new) result }
 {
     prepare(labels, ends.from * k);
     run(labels, network, k, ends, limit)
@@ -189,7 +189,7 @@ fn write_legs<M: Measure, N: Links<M>>(
     requires at { In k to p }
     requires held { Held (table M.Measure.kind labels.now) p }
     requires room { N.Links.span network.now ≤ length row.old }
-    ensures { Wrote-legs M.Measure.kind (N.Links.links network.now) from to (table M.Measure.kind labels.now p).value (length row.old) row.new result }
+    ensures { WroteLegs M.Measure.kind (N.Links.links network.now) from to (table M.Measure.kind labels.now p).value (length row.old) row.new result }
 {
     row.fill(0);
     let start = trace(labels, network, k, from, to, limit, p, row);
@@ -199,7 +199,7 @@ fn write_legs<M: Measure, N: Links<M>>(
 
 // Whether a workspace of so many labels is not k labels a site, or k is not from 1 to 64.
 pub fn is_ill_sized(sites: usize, room: usize, k: usize) -> bool
-    ensures { result ≡ ill-sized sites room k }
+    ensures { result ≡ ill_sized sites room k }
 {
     k < 1 || 64 < k || sites.checked_mul(k) != Some(room)
 }
@@ -212,7 +212,7 @@ fn check<M: Measure>(
     ask: Ask<M::Limit>,
     row: usize,
 ) -> Result<(), Refusal>
-    ensures { result ≡ unless (topmost (route-causes M.Measure.kind sites room k ask row)) (Ok tt) }
+    ensures { result ≡ unless (topmost (route_causes M.Measure.kind sites room k ask row)) (Ok tt) }
 {
     if ask.source as usize >= sites || ask.destination as usize >= sites {
         return Err(Refusal::NoSuchSite);

@@ -1,7 +1,7 @@
 //! What routing looks for among its labels and links.
 ghost use Rattle.std.specs.Prelude.{◌≡◌, ℕ, ◌+◌, ◌<◌, ◌≤◌, true, false, length, MatchOption};
 ghost use Rattle.measure.specs.Ranks.{Is, ranks};
-ghost use Rattle.labels.specs.Labels.{is_held, isQueued, table, Fits, First-below, covers, Held, Next-link, starts-at};
+ghost use Rattle.labels.specs.Labels.{is_held, is_queued, table, Fits, FirstBelow, covers, Held, NextLink, starts_at};
 ghost use Rattle.catalogue.specs.Places.{at as place_at};
 
 use catalogue::Links;
@@ -18,7 +18,7 @@ pub(crate) fn is_held(state: State) -> bool
 }
 
 pub(crate) fn is_queued(state: State) -> bool
-    ensures { result ≡ isQueued state }
+    ensures { result ≡ is_queued state }
 {
     match state {
         State::Queued => true,
@@ -48,11 +48,11 @@ fn better<M: Measure>(
     i: usize,
     limit: M::Limit,
 ) -> Option<usize>
-    requires admitted { Is (M.Measure.kind.limit-admitted limit) }
+    requires admitted { Is (M.Measure.kind.limit_admitted limit) }
     requires fits { Fits M.Measure.kind limit (table M.Measure.kind labels.now) }
     requires inside { i < length labels.now }
-    requires best { First-below M.Measure.kind limit (table M.Measure.kind labels.now) i best }
-    ensures { First-below M.Measure.kind limit (table M.Measure.kind labels.now) (i + 1) result }
+    requires best { FirstBelow M.Measure.kind limit (table M.Measure.kind labels.now) i best }
+    ensures { FirstBelow M.Measure.kind limit (table M.Measure.kind labels.now) (i + 1) result }
 {
     let label = at(labels, i);
     if !is_queued(label.state) {
@@ -71,9 +71,9 @@ fn better<M: Measure>(
 
 // The queued label of first rank.
 pub(crate) fn first_queued<M: Measure>(labels: &[Label<M>], limit: M::Limit) -> Option<usize>
-    requires admitted { Is (M.Measure.kind.limit-admitted limit) }
+    requires admitted { Is (M.Measure.kind.limit_admitted limit) }
     requires fits { Fits M.Measure.kind limit (table M.Measure.kind labels.now) }
-    ensures { First-below M.Measure.kind limit (table M.Measure.kind labels.now) (length labels.now) result }
+    ensures { FirstBelow M.Measure.kind limit (table M.Measure.kind labels.now) (length labels.now) result }
 {
     let mut best = None;
     for i in 0..labels.len() {
@@ -120,7 +120,7 @@ pub(crate) fn free_place<M: Measure>(labels: &[Label<M>], start: usize, end: usi
 
 // Whether a link from the site stands at the place.
 fn starts_from<M: Measure, N: Links<M>>(network: &N, site: usize, place: usize) -> bool
-    ensures { result ≡ starts-at site (place_at (N.Links.links network.now) place) }
+    ensures { result ≡ starts_at site (place_at (N.Links.links network.now) place) }
 {
     match network.link(place) {
         Some(link) => link.start as usize == site,
@@ -134,7 +134,7 @@ pub(crate) fn link_from<M: Measure, N: Links<M>>(
     site: usize,
     from: usize,
 ) -> Option<usize>
-    ensures { Next-link (N.Links.links network.now) site from result }
+    ensures { NextLink (N.Links.links network.now) site from result }
 {
     for i in from..network.places() {
         if starts_from(network, site, i) {

@@ -3,7 +3,7 @@ ghost use Rattle.std.specs.Prelude.{◌≡◌, ℕ, ◌+◌, ◌*◌, ◌<◌, �
 ghost use Rattle.measure.specs.Ranks.{Is};
 ghost use Rattle.catalogue.specs.Walks.{Holds};
 ghost use Rattle.catalogue.specs.Routes.{Sound, Crowded};
-ghost use Rattle.labels.specs.Labels.{table, cleared, Clears, Settles, Adds, Steady, Held, Waits, Offered, Offers-none, Opens, Rests, Frees, Starts};
+ghost use Rattle.labels.specs.Labels.{table, cleared, Clears, Settles, Adds, Steady, Held, Waits, Offered, OffersNone, Opens, Rests, Frees, Starts};
 
 use crate::scan::{at, free_place, is_dominated, is_queued, link_from};
 use catalogue::Links;
@@ -91,7 +91,7 @@ fn offered<M: Measure, N: Links<M>>(
     i: usize,
 ) -> Option<Offer<M>>
     requires { h < length labels.now }
-    ensures { MatchOption result (Offers-none M.Measure.kind limit (N.Links.links network.now) (table M.Measure.kind labels.now) h site i) (λ o. Offered M.Measure.kind limit (N.Links.links network.now) (table M.Measure.kind labels.now) h site i o.site o.value) }
+    ensures { MatchOption result (OffersNone M.Measure.kind limit (N.Links.links network.now) (table M.Measure.kind labels.now) h site i) (λ o. Offered M.Measure.kind limit (N.Links.links network.now) (table M.Measure.kind labels.now) h site i o.site o.value) }
 {
     let Some(link) = network.link(i) else {
         return None;
@@ -122,7 +122,7 @@ fn extend_by<M: Measure, N: Links<M>>(
     h: usize,
     i: usize,
 ) -> Option<usize>
-    requires admitted { Is (M.Measure.kind.limit-admitted limit) }
+    requires admitted { Is (M.Measure.kind.limit_admitted limit) }
     requires sound { Sound M.Measure.kind (N.Links.span network.now) (N.Links.links network.now) }
     requires size { length labels.old ≡ N.Links.span network.now * k }
     requires held { h < length labels.old }
@@ -160,7 +160,7 @@ pub(crate) fn extend<M: Measure, N: Links<M>>(
     limit: M::Limit,
     h: usize,
 ) -> Option<usize>
-    requires admitted { Is (M.Measure.kind.limit-admitted limit) }
+    requires admitted { Is (M.Measure.kind.limit_admitted limit) }
     requires sound { Sound M.Measure.kind (N.Links.span network.now) (N.Links.links network.now) }
     requires size { length labels.old ≡ N.Links.span network.now * k }
     requires held { h < length labels.old }

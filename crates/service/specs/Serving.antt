@@ -3,7 +3,7 @@ use Rattle.std.specs.Prelude.{◌≡◌, ℕ, List, Some, None, Option}
 use Rattle.measure.specs.declared.pair.Pair.{Pair}
 use Rattle.measure.specs.declared.scalar.Sum.{Sum}
 use Rattle.measure.specs.declared.scalar.Worst.{Worst}
-use Rattle.measure.specs.Products.{trunk, trunk-limit, trunk-kind}
+use Rattle.measure.specs.Products.{trunk, trunk_limit, trunk_kind}
 use Rattle.catalogue.specs.declared.Link.{Link}
 use Rattle.records.specs.declared.Measures.{Measures}
 use Rattle.records.specs.declared.Record.{Record}
@@ -27,51 +27,51 @@ TrunkLimits = Pair (Pair ℕ ℕ) ℕ
 abbrev pub value_of : Measures → TrunkValue
 value_of m = trunk m.delay m.price m.class
 
-abbrev pub limit-of : Measures → TrunkLimits
-limit-of m = trunk-limit m.delay m.price m.class
+abbrev pub limit_of : Measures → TrunkLimits
+limit_of m = trunk_limit m.delay m.price m.class
 
-abbrev pub link-of : ℕ → ℕ → Measures → Link TrunkValue
-link-of start end m = record { start = start; end = end; value = value_of m }
+abbrev pub link_of : ℕ → ℕ → Measures → Link TrunkValue
+link_of start end m = record { start = start; end = end; value = value_of m }
 
-abbrev pub ask-of : ℕ → ℕ → Measures → Ask TrunkLimits
-ask-of source destination limits = record { source = source; destination = destination; limit = limit-of limits }
+abbrev pub ask_of : ℕ → ℕ → Measures → Ask TrunkLimits
+ask_of source destination limits = record { source = source; destination = destination; limit = limit_of limits }
 
 -- the call that a record asks for, with k labels a site
-abbrev pub call-of : Record → ℕ → Call TrunkValue TrunkLimits
-call-of (record-variants.Offer link start end m) k = Offer link (link-of start end m)
-call-of (record-variants.Change link m) k = Change link (value_of m)
-call-of (record-variants.Withdraw link) k = Withdraw link
-call-of (record-variants.Quote card source destination limits) k = Quote card (ask-of source destination limits) k
-call-of (record-variants.Recheck card) k = Recheck card k
-call-of (record-variants.Discard card) k = Discard card
-call-of (record-variants.Read card) k = Read card 0
+abbrev pub call_of : Record → ℕ → Call TrunkValue TrunkLimits
+call_of (record-variants.Offer link start end m) k = Offer link (link_of start end m)
+call_of (record-variants.Change link m) k = Change link (value_of m)
+call_of (record-variants.Withdraw link) k = Withdraw link
+call_of (record-variants.Quote card source destination limits) k = Quote card (ask_of source destination limits) k
+call_of (record-variants.Recheck card) k = Recheck card k
+call_of (record-variants.Discard card) k = Discard card
+call_of (record-variants.Read card) k = Read card 0
 
 -- the card that is read once a quote or a recheck was carried out
-abbrev pub held-card : Reply TrunkValue → ℕ → Option ℕ
-held-card (Counted count) card = None
-held-card (Held mark answer) card = Some card
-held-card (Refused why) card = None
+abbrev pub held_card : Reply TrunkValue → ℕ → Option ℕ
+held_card (Counted count) card = None
+held_card (Held mark answer) card = Some card
+held_card (Refused why) card = None
 
-abbrev pub card-read : Record → Reply TrunkValue → Option ℕ
-card-read (record-variants.Offer link start end m) reply = None
-card-read (record-variants.Change link m) reply = None
-card-read (record-variants.Withdraw link) reply = None
-card-read (record-variants.Quote card source destination limits) reply = held-card reply card
-card-read (record-variants.Recheck card) reply = held-card reply card
-card-read (record-variants.Discard card) reply = None
-card-read (record-variants.Read card) reply = None
+abbrev pub card_read : Record → Reply TrunkValue → Option ℕ
+card_read (record-variants.Offer link start end m) reply = None
+card_read (record-variants.Change link m) reply = None
+card_read (record-variants.Withdraw link) reply = None
+card_read (record-variants.Quote card source destination limits) reply = held_card reply card
+card_read (record-variants.Recheck card) reply = held_card reply card
+card_read (record-variants.Discard card) reply = None
+card_read (record-variants.Read card) reply = None
 
 -- the call, and where it answered what a card holds, a reading of that card: two steps of a run at the most
-abbrev pub Read-then : Memory TrunkValue TrunkLimits → Lent TrunkValue → Reply TrunkValue → Option ℕ → Reply TrunkValue → Memory TrunkValue TrunkLimits → Lent TrunkValue → Type 0
-Read-then m l first None reply m' l' = (reply ≡ first) × (m' ≡ m) × (l' ≡ l)
-Read-then m l first (Some card) reply m' l' = Outcome trunk-kind m l (Read card 0) reply m' l'
+abbrev pub ReadThen : Memory TrunkValue TrunkLimits → Lent TrunkValue → Reply TrunkValue → Option ℕ → Reply TrunkValue → Memory TrunkValue TrunkLimits → Lent TrunkValue → Type 0
+ReadThen m l first None reply m' l' = (reply ≡ first) × (m' ≡ m) × (l' ≡ l)
+ReadThen m l first (Some card) reply m' l' = Outcome trunk_kind m l (Read card 0) reply m' l'
 
 pub record Served (m : Memory TrunkValue TrunkLimits) (l : Lent TrunkValue) (r : Record) (k : ℕ) (reply : Reply TrunkValue) (m' : Memory TrunkValue TrunkLimits) (l' : Lent TrunkValue) : Type 0 where
   pub first : Reply TrunkValue
   pub between : Memory TrunkValue TrunkLimits
   pub left : Lent TrunkValue
-  pub call : Outcome trunk-kind m l (call-of r k) first between left
-  pub reading : Read-then between left first (card-read r first) reply m' l'
+  pub call : Outcome trunk_kind m l (call_of r k) first between left
+  pub reading : ReadThen between left first (card_read r first) reply m' l'
 
 -- what is printed of a reply, and how many legs its route has
 abbrev pub printed : Reply TrunkValue → Printed × ℕ

@@ -1,8 +1,8 @@
 //! Records of the trunk product's feed as calls on its catalogue and quote book, and what they answer as replies to be printed.
 ghost use Rattle.std.specs.Prelude.{◌≡◌, ◌+◌, length};
 ghost use Rattle.cards.specs.Runs.{lent};
-ghost use Rattle.book.specs.Stores.{memory-of, Same-links, Same-places};
-ghost use Rattle.service.specs.Serving.{value_of, limit-of, call-of, card-read, printed, Served};
+ghost use Rattle.book.specs.Stores.{memory_of, SameLinks, SamePlaces};
+ghost use Rattle.service.specs.Serving.{value_of, limit_of, call_of, card_read, printed, Served};
 
 use cards::{Call, Reply};
 use catalogue::{Catalogue, Link};
@@ -20,14 +20,14 @@ fn value(measures: Measures) -> Trunk
 }
 
 fn limit(limits: Measures) -> TrunkLimit
-    ensures { result ≡ limit-of limits }
+    ensures { result ≡ limit_of limits }
 {
     trunk_limits(limits.delay, limits.price, limits.class)
 }
 
 // The call that a record asks for. Routing holds k walks a site; a reading copies the legs from the reply's first place on.
 pub fn call_of(record: Record, k: usize) -> Call<Trunk, TrunkLimit>
-    ensures { result ≡ call-of «record» k }
+    ensures { result ≡ call_of «record» k }
 {
     match record {
         Record::Offer {
@@ -80,7 +80,7 @@ pub fn call_of(record: Record, k: usize) -> Call<Trunk, TrunkLimit>
 
 // The card that is read for printing once a quote or a recheck has answered what it holds.
 fn card_read(record: Record, reply: Reply<Trunk>) -> Option<usize>
-    ensures { result ≡ card-read «record» reply }
+    ensures { result ≡ card_read «record» reply }
 {
     let Reply::Held { mark: _, answer: _ } = reply else {
         return None;
@@ -106,9 +106,9 @@ pub fn serve(
     reply: &mut [u16],
     record: Record,
 ) -> Reply<Trunk>
-    ensures served { Served (memory-of catalogue.old book.old) (lent labels.old reply.old) «record» k result (memory-of catalogue.new book.new) (lent labels.new reply.new) }
-    ensures links { Same-links catalogue.old catalogue.new }
-    ensures places { Same-places book.old book.new }
+    ensures served { Served (memory_of catalogue.old book.old) (lent labels.old reply.old) «record» k result (memory_of catalogue.new book.new) (lent labels.new reply.new) }
+    ensures links { SameLinks catalogue.old catalogue.new }
+    ensures places { SamePlaces book.old book.new }
 {
     let answer = perform(catalogue, book, labels, reply, call_of(record, k));
     let Some(card) = card_read(record, answer) else {

@@ -2,13 +2,13 @@ use Rattle.std.proofs.Common.{length, decimal, sym, ap, arith}
 use Rattle.std.proofs.lemmas.Bool.{le-leb, lt-leb}
 use Rattle.line.specs.Lines.{words}
 use Rattle.line.specs.Parts.{spelled}
-use Rattle.line.proofs.Wording.{length-line, word_room, words-all}
+use Rattle.line.proofs.Wording.{length_line, word_room, words_all}
 use Rattle.line.proofs.fits.Goals as goal
 use Rattle.line.proofs.fits.Goals.{then-start-room-via-then-start-room, then-start-room-via-else-start-room+then-room-start}
 
 pub returns-then-start-room : goal.returns-then-start-room
 returns-then-start-room c =
-    let e = length-line (decimal c.args.number) (words c.args.reply c.args.legs.now) in
+    let e = length_line (decimal c.args.number) (words c.args.reply c.args.legs.now) in
     sym (lt-leb _ _ (elim c.then-start-room.branch [ then-start-room-via-then-start-room w ↦ omega arith | then-start-room-via-else-start-room+then-room-start w ↦ omega arith ]))
 
 pub returns-then-left-length : goal.returns-then-left-length
@@ -23,6 +23,6 @@ loop-word-preserved c =
 
 pub returns : goal.returns
 returns c =
-    let e = length-line (decimal c.args.number) (words c.args.reply c.args.legs.now) in
-    let all = ap length (words-all (words c.args.reply c.args.legs.now) c.loop-word.i c.in_default.ensures) in
+    let e = length_line (decimal c.args.number) (words c.args.reply c.args.legs.now) in
+    let all = ap length (words_all (words c.args.reply c.args.legs.now) c.loop-word.i c.in_default.ensures) in
     sym (le-leb _ _ (omega arith))

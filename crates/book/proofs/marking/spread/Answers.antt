@@ -1,29 +1,29 @@
 use Rattle.std.proofs.Common.{◌≡◌, ℕ, ◌+◌, ◌<◌, ◌≤◌, cond, List, length, set, Option, sym, ap, ◌∙◌, subst, arith}
 use Rattle.catalogue.specs.Places.{at}
 use Rattle.cards.specs.declared.Card.{Card}
-use Rattle.cards.specs.Books.{Book, with-cards}
+use Rattle.cards.specs.Books.{Book, with_cards}
 use Rattle.cards.specs.Doubts.{lapsed, fell, strikes}
-use Rattle.doubt.specs.News.{rule-of}
-use Rattle.doubt.proofs.Spreading.{Partly, partly_more, partly-all, partly-count}
-use Rattle.book.specs.Stores.{book-of}
-use Rattle.book.proofs.Booked.{same-book}
+use Rattle.doubt.specs.News.{rule_of}
+use Rattle.doubt.proofs.Spreading.{Partly, partly_more, partly_all, partly_count}
+use Rattle.book.specs.Stores.{book_of}
+use Rattle.book.proofs.Booked.{same_book}
 use Rattle.book.proofs.marking.spread.Goals as goal
 use Rattle.book.proofs.marking.spread.Goals.{then-mark_card, else-mark_card}
 
 pub overflow_add-count : goal.overflow_add-count
 overflow_add-count g c =
     let below : c.loop-place.count ≤ c.loop-place.place =
-    partly-count (rule-of g.M.Measure.kind c.args.news) (book-of c.args.book.now) c.loop-place.book.cards.now c.loop-place.place c.loop-place.count c.loop-place.invariant.0 in
+    partly_count (rule_of g.M.Measure.kind c.args.news) (book_of c.args.book.now) c.loop-place.book.cards.now c.loop-place.place c.loop-place.count c.loop-place.invariant.0 in
     omega arith
 
 pub loop-place-preserved : goal.loop-place-preserved
 loop-place-preserved g c =
-    let rule = rule-of g.M.Measure.kind c.args.news in
-    let b = book-of c.args.book.now in
+    let rule = rule_of g.M.Measure.kind c.args.news in
+    let b = book_of c.args.book.now in
     let cards = c.loop-place.book.cards.now in
     let place = c.loop-place.place in
     let inv = c.loop-place.invariant in
-    let now-is : book-of c.loop-place.book ≡ with-cards b cards = same-book c.args.book.now c.loop-place.book.sites inv.2 inv.0.places inv.1 in
+    let now-is : book_of c.loop-place.book ≡ with_cards b cards = same_book c.args.book.now c.loop-place.book.sites inv.2 inv.0.places inv.1 in
     let lt : place < length cards = omega (arith, inv.0.places) in
     let after = c.mark_card.ensures.cards
     ∙ ap (λ (x : Book g.row.M.Denot g.row.M-Limit.Denot). set cards place (lapsed (strikes rule x place) (at cards place))) now-is in
@@ -46,9 +46,9 @@ pub returns : goal.returns
 returns g c =
     let inv = c.loop-place.invariant in
     record {
-      doubted = partly-all (rule-of g.M.Measure.kind c.args.news) (book-of c.args.book.now) c.loop-place.book.cards.now c.loop-place.place c.loop-place.count
+      doubted = partly_all (rule_of g.M.Measure.kind c.args.news) (book_of c.args.book.now) c.loop-place.book.cards.now c.loop-place.place c.loop-place.count
           c.loop-place-test.false c.loop-place.auto.place-end inv.0;
-      book = same-book c.args.book.now c.loop-place.book.sites inv.2 inv.0.places inv.1;
+      book = same_book c.args.book.now c.loop-place.book.sites inv.2 inv.0.places inv.1;
       same_cards = inv.3;
       same_rows = inv.4;
     }

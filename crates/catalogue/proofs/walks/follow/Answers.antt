@@ -1,6 +1,6 @@
 use Rattle.std.proofs.Common.{◌≡◌, ℕ, ◌+◌, get_or, drop, sym, ap, ◌∙◌, subst, arith}
 use Rattle.catalogue.specs.Walks.{Holds}
-use Rattle.catalogue.proofs.Walking.{Onward, onward-more, onward_stops, onward-all}
+use Rattle.catalogue.proofs.Walking.{Onward, onward_more, onward_stops, onward_all}
 use Rattle.catalogue.proofs.walks.follow.Goals as goal
 
 pub returns-in_default : goal.returns-in_default
@@ -19,7 +19,7 @@ loop-leg-preserved g c =
     let held : Holds links leg c.loop-leg.site link.end link.value = subst (λ (x : ℕ). Holds links leg x link.end link.value) c.if-link-site.false (sym c.link.ensures ∙ c.in-Some.is) in
     subst (λ (v : g.row.M.Denot). Onward g.M.Measure.kind links c.args.source g.M.Measure.kind.empty c.args.legs.now link.end v (drop (c.loop-leg.leg-index + 1) c.args.legs.now))
     (sym c.extended-value.ensures)
-    (onward-more g.M.Measure.kind links c.args.source c.loop-leg.site link.end _ c.loop-leg.value link.value c.args.legs.now c.loop-leg.leg-index (omega arith) held c.loop-leg.invariant)
+    (onward_more g.M.Measure.kind links c.args.source c.loop-leg.site link.end _ c.loop-leg.value link.value c.args.legs.now c.loop-leg.leg-index (omega arith) held c.loop-leg.invariant)
 
 pub returns : goal.returns
-returns g c = onward-all g.M.Measure.kind _ _ _ _ _ _ c.loop-leg.leg-index (omega arith) c.loop-leg.invariant
+returns g c = onward_all g.M.Measure.kind _ _ _ _ _ _ c.loop-leg.leg-index (omega arith) c.loop-leg.invariant

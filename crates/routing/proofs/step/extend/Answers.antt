@@ -1,6 +1,6 @@
 use Rattle.std.proofs.Common.{◌≡◌, ℕ, ◌+◌, ◌*◌, ◌<◌, length, sym, ap, ◌∙◌, subst, arith}
 use Rattle.labels.specs.Labels.{table}
-use Rattle.labels.proofs.Finding.{opens-next, opens-rests, holds-inside}
+use Rattle.labels.proofs.Finding.{opens_next, opens_rests, holds_inside}
 use Rattle.routing.proofs.step.extend.Goals as goal
 
 pub extend_by-requires : goal.extend_by-requires
@@ -10,21 +10,21 @@ extend_by-requires g c =
       sound = c.requires.sound;
       size = omega (arith, c.requires.size);
       held = omega (arith, c.requires.held);
-      opens = opens-next c.args.limit (g.N.Links.links c.args.network.now) c.args.k c.args.ends.from c.args.ends.to (table g.M.Measure.kind c.loop-i.labels) c.args.h c.args.site c.loop-i.from c.loop-i.invariant.0 c.in-Some.i c.in-Some.ensures;
+      opens = opens_next c.args.limit (g.N.Links.links c.args.network.now) c.args.k c.args.ends.from c.args.ends.to (table g.M.Measure.kind c.loop-i.labels) c.args.h c.args.site c.loop-i.from c.loop-i.invariant.0 c.in-Some.i c.in-Some.ensures;
     }
 
 pub overflow_add-from : goal.overflow_add-from
 overflow_add-from g c =
     let next = c.in-Some.ensures in
-    let inside = holds-inside (g.N.Links.links c.args.network.now) c.in-Some.i c.args.site next.holds.0 next.holds.1 next.holds.2 in
-    let few = c.requires.sound.places-few in
+    let inside = holds_inside (g.N.Links.links c.args.network.now) c.in-Some.i c.args.site next.holds.0 next.holds.1 next.holds.2 in
+    let few = c.requires.sound.places_few in
     omega arith
 
 pub loop-i-smaller : goal.loop-i-smaller
 loop-i-smaller g c =
     let next = c.in-Some.ensures in
     let low = next.low in
-    let inside = holds-inside (g.N.Links.links c.args.network.now) c.in-Some.i c.args.site next.holds.0 next.holds.1 next.holds.2 in
+    let inside = holds_inside (g.N.Links.links c.args.network.now) c.in-Some.i c.args.site next.holds.0 next.holds.1 next.holds.2 in
     omega arith
 
 pub loop-i-preserved : goal.loop-i-preserved
@@ -32,4 +32,4 @@ loop-i-preserved g c = let r = c.in_default-extend_by.ensures in (r.0, λ p. r.1
 
 pub returns : goal.returns
 returns g c =
-    (opens-rests c.args.limit (g.N.Links.links c.args.network.now) c.args.k c.args.ends.from c.args.ends.to (table g.M.Measure.kind c.loop-i.labels) c.args.h c.args.site c.loop-i.from c.loop-i.invariant.0 c.in_default.ensures, c.loop-i.invariant.1)
+    (opens_rests c.args.limit (g.N.Links.links c.args.network.now) c.args.k c.args.ends.from c.args.ends.to (table g.M.Measure.kind c.loop-i.labels) c.args.h c.args.site c.loop-i.from c.loop-i.invariant.0 c.in_default.ensures, c.loop-i.invariant.1)

@@ -2,25 +2,25 @@ use Rattle.std.proofs.Common.{◌≡◌, ℕ, ◌+◌, ◌*◌, ◌<◌, ◌≤�
 use Rattle.measure.specs.Ranks.{Is}
 use Rattle.labels.specs.Labels.{table, Offered}
 use Rattle.labels.proofs.Chains.{done_held}
-use Rattle.labels.proofs.Turns.{turn-none, turn-dominated, turn-full, turn-adds, offer-made}
-use Rattle.labels.proofs.Finding.{links-made, site-room}
+use Rattle.labels.proofs.Turns.{turn_none, turn_dominated, turn_full, turn_adds, offer_made}
+use Rattle.labels.proofs.Finding.{links_made, site_room}
 use Rattle.routing.proofs.step.extend_by.Goals as goal
 
 pub returns-in_default : goal.returns-in_default
 returns-in_default g c =
     let m = g.M.Measure in
-    (turn-none g.met.M.Measure.lawful c.args.limit c.requires.admitted (g.N.Links.links c.args.network.now) (links-made _ _ c.requires.sound) c.args.k c.args.ends.from c.args.ends.to (table m.kind c.args.labels.now) c.args.h c.args.site c.args.i c.requires.opens c.in_default.ensures, λ p. refl)
+    (turn_none g.met.M.Measure.lawful c.args.limit c.requires.admitted (g.N.Links.links c.args.network.now) (links_made _ _ c.requires.sound) c.args.k c.args.ends.from c.args.ends.to (table m.kind c.args.labels.now) c.args.h c.args.site c.args.i c.requires.opens c.in_default.ensures, λ p. refl)
 
 pub overflow_mul-start : goal.overflow_mul-start
 overflow_mul-start g c =
     let o = c.in-Some.ensures in
-    let r = site-room (g.N.Links.span c.args.network.now) c.args.k c.in-Some.offer.site (c.requires.sound.each c.args.i c.args.site c.in-Some.offer.site o.value o.leads).end-in in
+    let r = site_room (g.N.Links.span c.args.network.now) c.args.k c.in-Some.offer.site (c.requires.sound.each c.args.i c.args.site c.in-Some.offer.site o.value o.leads).end_in in
     search rules
 
 pub overflow_add-end : goal.overflow_add-end
 overflow_add-end g c =
     let o = c.in-Some.ensures in
-    let r = site-room (g.N.Links.span c.args.network.now) c.args.k c.in-Some.offer.site (c.requires.sound.each c.args.i c.args.site c.in-Some.offer.site o.value o.leads).end-in in
+    let r = site_room (g.N.Links.span c.args.network.now) c.args.k c.in-Some.offer.site (c.requires.sound.each c.args.i c.args.site c.in-Some.offer.site o.value o.leads).end_in in
     search rules
 
 pub is_dominated-requires : goal.is_dominated-requires
@@ -29,7 +29,7 @@ is_dominated-requires g c =
     let o = c.in-Some.ensures in
     record {
       order = omega arith;
-      inside = rw c.requires.size (site-room (g.N.Links.span c.args.network.now) c.args.k c.in-Some.offer.site (c.requires.sound.each c.args.i c.args.site c.in-Some.offer.site o.value o.leads).end-in);
+      inside = rw c.requires.size (site_room (g.N.Links.span c.args.network.now) c.args.k c.in-Some.offer.site (c.requires.sound.each c.args.i c.args.site c.in-Some.offer.site o.value o.leads).end_in);
     }
 
 pub returns-then-is_dominated : goal.returns-then-is_dominated
@@ -37,7 +37,7 @@ returns-then-is_dominated g c =
     let m = g.M.Measure in
     let o = c.in-Some.ensures in
     let (p, a, b, cov) = c.is_dominated.ensures.some c.if-is_dominated.true in
-    (turn-dominated g.met.M.Measure.lawful c.args.limit c.requires.admitted (g.N.Links.links c.args.network.now) (links-made _ _ c.requires.sound) c.args.k c.args.ends.from c.args.ends.to (table m.kind c.args.labels.now) c.args.h c.args.site c.args.i c.requires.opens c.in-Some.offer.site c.in-Some.offer.value o p (a, b) cov, λ p. refl)
+    (turn_dominated g.met.M.Measure.lawful c.args.limit c.requires.admitted (g.N.Links.links c.args.network.now) (links_made _ _ c.requires.sound) c.args.k c.args.ends.from c.args.ends.to (table m.kind c.args.labels.now) c.args.h c.args.site c.args.i c.requires.opens c.in-Some.offer.site c.in-Some.offer.value o p (a, b) cov, λ p. refl)
 
 pub put-requires : goal.put-requires
 put-requires g c =
@@ -45,7 +45,7 @@ put-requires g c =
     let o = c.in-Some.ensures in
     record {
       order = omega arith;
-      inside = rw c.requires.size (site-room (g.N.Links.span c.args.network.now) c.args.k c.in-Some.offer.site (c.requires.sound.each c.args.i c.args.site c.in-Some.offer.site o.value o.leads).end-in);
+      inside = rw c.requires.size (site_room (g.N.Links.span c.args.network.now) c.args.k c.in-Some.offer.site (c.requires.sound.each c.args.i c.args.site c.in-Some.offer.site o.value o.leads).end_in);
     }
 
 pub returns-then-put : goal.returns-then-put
@@ -53,10 +53,10 @@ returns-then-put g c =
     let m = g.M.Measure in
     let o = c.in-Some.ensures in
     let (x, adds) = c.put.ensures.placed c.if-put.true in
-    turn-adds g.met.M.Measure.lawful c.args.limit c.requires.admitted (g.N.Links.links c.args.network.now) (links-made _ _ c.requires.sound) c.args.k c.args.ends.from c.args.ends.to (table m.kind c.args.labels.now) c.args.h c.args.site c.args.i c.requires.opens c.in-Some.offer.site c.in-Some.offer.value o (c.is_dominated.ensures.none c.if-is_dominated.false) (table m.kind c.put.new.labels) x adds
+    turn_adds g.met.M.Measure.lawful c.args.limit c.requires.admitted (g.N.Links.links c.args.network.now) (links_made _ _ c.requires.sound) c.args.k c.args.ends.from c.args.ends.to (table m.kind c.args.labels.now) c.args.h c.args.site c.args.i c.requires.opens c.in-Some.offer.site c.in-Some.offer.value o (c.is_dominated.ensures.none c.if-is_dominated.false) (table m.kind c.put.new.labels) x adds
 
 pub returns-else-put : goal.returns-else-put
 returns-else-put g c =
     let m = g.M.Measure in
     let o = c.in-Some.ensures in
-    turn-full g.met.M.Measure.lawful c.args.limit c.requires.admitted (g.N.Links.links c.args.network.now) (links-made _ _ c.requires.sound) c.args.k c.args.ends.from c.args.ends.to (table m.kind c.args.labels.now) c.args.h c.args.site c.args.i c.requires.opens c.in-Some.offer.site c.in-Some.offer.value o (c.is_dominated.ensures.none c.if-is_dominated.false) (c.put.ensures.full c.if-put.false)
+    turn_full g.met.M.Measure.lawful c.args.limit c.requires.admitted (g.N.Links.links c.args.network.now) (links_made _ _ c.requires.sound) c.args.k c.args.ends.from c.args.ends.to (table m.kind c.args.labels.now) c.args.h c.args.site c.args.i c.requires.opens c.in-Some.offer.site c.in-Some.offer.value o (c.is_dominated.ensures.none c.if-is_dominated.false) (c.put.ensures.full c.if-put.false)

@@ -1,7 +1,7 @@
 use Rattle.std.proofs.Common.{◌≡◌, ◌≤◌, length, sym, ap, ◌∙◌, subst, arith}
 use Rattle.std.proofs.lemmas.Bool.{true≢false, false≢true}
 use Rattle.labels.specs.Labels.{table}
-use Rattle.labels.proofs.Scans.{clears-full, adds-made}
+use Rattle.labels.proofs.Scans.{clears_full, adds_made}
 use Rattle.routing.proofs.step.put.Goals as goal
 
 pub returns-in-Some : goal.returns-in-Some
@@ -10,7 +10,7 @@ returns-in-Some g c =
     let free = c.in-Some.ensures in
     let room : c.args.end ≤ length c.clear_dominated.new.labels = omega arith in
     record {
-      placed = λ _. (c.in-Some.x, adds-made K (table K c.args.labels.now) c.clear_dominated.new.labels c.args.newcomer c.args.start c.args.end c.clear_dominated.ensures c.in-Some.x free.0 free.1 room free.2);
+      placed = λ _. (c.in-Some.x, adds_made K (table K c.args.labels.now) c.clear_dominated.new.labels c.args.newcomer c.args.start c.args.end c.clear_dominated.ensures c.in-Some.x free.0 free.1 room free.2);
       full = λ e. absurd (true≢false e);
     }
 
@@ -19,5 +19,5 @@ returns-in-None g c =
     let K = g.M.Measure.kind in
     record {
       placed = λ e. absurd (false≢true e);
-      full = λ _. clears-full K (table K c.args.labels.now) c.clear_dominated.new.labels c.args.newcomer c.args.start c.args.end c.clear_dominated.ensures c.in-None.ensures;
+      full = λ _. clears_full K (table K c.args.labels.now) c.clear_dominated.new.labels c.args.newcomer c.args.start c.args.end c.clear_dominated.ensures c.in-None.ensures;
     }

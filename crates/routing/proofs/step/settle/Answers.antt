@@ -2,7 +2,7 @@ use Rattle.std.proofs.Common.{◌≡◌, sym, ap, ◌∙◌, subst}
 use Rattle.labels.specs.declared.Label.{Label}
 use Rattle.labels.specs.declared.State.TheVariants.{Settled}
 use Rattle.labels.specs.Labels.{table}
-use Rattle.labels.proofs.Scans.{table_same, table-other}
+use Rattle.labels.proofs.Scans.{table_same, table_other}
 use Rattle.routing.proofs.step.settle.Goals as goal
 
 pub returns : goal.returns
@@ -10,5 +10,5 @@ returns g c =
     let K = g.M.Measure.kind in
     record {
       here = table_same K c.args.labels.now c.args.h _ c.requires ∙ ap (λ y. record { state = Settled; value = y.value; previous = y.previous; link = y.link }) c.at-label.ensures;
-      other = λ p ne. table-other K c.args.labels.now c.args.h _ p ne;
+      other = λ p ne. table_other K c.args.labels.now c.args.h _ p ne;
     }
