@@ -1,8 +1,7 @@
 -- The front of a list and what is left of it, where the count may be past the end.
-use Rattle.std.proofs.Common.{◌≡◌, ℕ, ◌-◌, ◌*◌, ◌^◌, ◌≤◌, min, List, length, take, drop, sym, ap, ◌∙◌, ⊎_elim, arith}
+use Rattle.std.proofs.Common.{◌≡◌, ℕ, ◌-◌, min, List, length, take, drop, sym, ap, ◌∙◌, ⊎_elim, arith}
 use Rattle.std.proofs.lemmas.List.{take_all, drop_all, take_rest}
 use Rattle.std.proofs.lemmas.Bool.{cases_lt}
-use Rattle.cards.specs.Books.{row_at}
 
 pub take_min : (n r : ℕ) (xs : List ℕ) → r ≡ min n (length xs) → take (r - 0) xs ≡ take n xs
 take_min n r xs e =

@@ -1,4 +1,6 @@
 //! The quote book: cards with the best routes for what was asked, the calls on one card, and the marking of all cards by news of a link.
+#![tactic(auto)]
+
 ghost use Rattle.std.specs.Prelude.{◌≡◌, ◌+◌, ◌*◌, ◌<◌, ◌≤◌, length, take, slice_set};
 ghost use Rattle.catalogue.specs.Places.{at};
 ghost use Rattle.cards.specs.Books.{book_size_answer, opened_book, row_at};

@@ -1,5 +1,5 @@
 -- What a catalogue and its quote book hold.
-use Rattle.std.specs.Prelude.{◌≡◌, ℕ, ◌*◌, Bool, not, ◌||◌, List, [], ◌∷◌, length, take, drop, replicate, Some, None, Ok, Option, Result, ◌==◌, nat_lt, slice_set}
+use Rattle.std.specs.Prelude.{ℕ, ◌*◌, not, ◌||◌, List, [], ◌∷◌, take, drop, replicate, Some, None, Ok, Option, Result, ◌==◌, nat_lt, slice_set}
 use Rattle.std.proofs.Math.Seq.{paste}
 use Rattle.report.specs.declared.Refusal.{Refusal}
 use Rattle.report.specs.declared.Refusal.TheVariants.{QuoteBookSize}

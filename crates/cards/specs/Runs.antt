@@ -1,5 +1,5 @@
 -- Histories of calls on a catalogue and its quote book, and what holds after each.
-use Rattle.std.specs.Prelude.{◌≡◌, ℕ, Bool, false, cond, List, [], ◌∷◌, ◌++◌, length, take, drop, replicate, Some, None, Ok, Err, Option, Result, ◌==◌, slice_set}
+use Rattle.std.specs.Prelude.{◌≡◌, ℕ, false, cond, List, [], ◌∷◌, ◌++◌, length, take, drop, replicate, Some, None, Ok, Err, Option, Result, ◌==◌, slice_set}
 use Rattle.measure.specs.Kind.{Kind}
 use Rattle.measure.specs.Ranks.{Is}
 use Rattle.measure.specs.Ratios.{AtMost, equal}

@@ -1,5 +1,7 @@
 //! Quote cards, the calls on a catalogue and its quote book, and what holds of every card after any run of these calls. There is no code
 //! here: the mathematics stands below the code, so that a change of the code does not prove it again.
+#![tactic(auto)]
+
 use catalogue::Link;
 use report::{Mark, Refusal};
 use routing::{Ask, Route};

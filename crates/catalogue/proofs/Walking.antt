@@ -3,7 +3,6 @@ use Rattle.std.proofs.Common.{◌≡◌, ℕ, ◌+◌, ◌<◌, ◌≤◌, List,
 use Rattle.std.proofs.lemmas.List.{drop_all}
 use Rattle.measure.specs.Kind.{Kind}
 use Rattle.catalogue.specs.declared.Link.{Link}
-use Rattle.catalogue.specs.Places.{at}
 use Rattle.catalogue.specs.Walks.{Holds, extend, Goes}
 
 some_same : {A : Type 0} {a b : A} → Some a ≡ Some b → a ≡ b

@@ -1,4 +1,6 @@
 //! The catalogue: directed links, each at a numbered place, between numbered sites.
+#![tactic(auto)]
+
 ghost use Rattle.std.specs.Prelude.{◌≡◌, ℕ, List, length, replicate, None, Option as Maybe};
 ghost use Rattle.catalogue.specs.declared.Link.{Link as Edge};
 ghost use Rattle.catalogue.specs.Places.{at};

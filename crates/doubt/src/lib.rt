@@ -1,4 +1,6 @@
 //! When a card falls into doubt: the rule, over anything that answers a quote book's questions, and the marks as a machine.
+#![tactic(auto)]
+
 ghost use Rattle.std.specs.Prelude.{◌≡◌, take};
 ghost use Rattle.catalogue.specs.Places.{at};
 ghost use Rattle.cards.specs.Books.{Book, row_at, leg_count};

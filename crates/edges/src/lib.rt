@@ -1,4 +1,6 @@
 //! Tests of the edges: the first and last numbers that are allowed, and those just past them.
+#![tactic(auto)]
+
 #[cfg(test)]
 mod catalogues;
 #[cfg(test)]

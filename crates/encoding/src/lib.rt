@@ -1,5 +1,7 @@
 //! Writing a feed's records: the bytes of each kind, and putting them into a buffer. It is a crate of its own, so that an edit that is tried
 //! on writing does not prove reading too, nor the other way round.
+#![tactic(auto)]
+
 ghost use Rattle.std.specs.Prelude.{◌≡◌, ◌∷◌, ◌++◌};
 ghost use Rattle.report.specs.Buffers.{Put};
 ghost use Rattle.records.specs.RoundTrip.{ReadsBack, Written};

@@ -3,6 +3,8 @@
 //!
 //! A record is one byte of kind, and then a body whose length the kind fixes. Numbers are big-endian: places and sites have 16 bits,
 //! measures 32.
+#![tactic(auto)]
+
 ghost use Rattle.std.specs.Prelude.{◌≡◌, ℕ, ◌+◌, ◌-◌, ◌≤◌, length, drop, Some, slice_index};
 ghost use Rattle.records.specs.Feed.{body_length, refusal_of, number32, reading_of, unread_of, Ahead};
 ghost use Rattle.records.specs.RoundTrip.{WritesBack, ReadsPart};

@@ -1,4 +1,6 @@
 //! Reads a feed from standard input and prints one line for each record.
+#![tactic(auto)]
+
 ghost use Rattle.std.specs.Prelude.{◌≤◌, length, IfOk};
 
 use anyhow::anyhow;

@@ -1,16 +1,15 @@
 -- Places, states, and the chains of labels.
-use Rattle.std.proofs.Common.{◌≡◌, ℕ, suc, ◌+◌, ◌*◌, ◌<◌, ◌≤◌, Bool, true, false, ◌⊎◌, List, [], ◌∷◌, ◌++◌, sym, refl, ap, ◌∙◌, subst, subst₂, inl, inr, ⊎_elim, mul-le-mul_right, suc-mul, arith}
-use Rattle.std.proofs.lemmas.Bool.{both_ways, cases_order, true≢false, false≢true}
+use Rattle.std.proofs.Common.{◌≡◌, ℕ, suc, ◌+◌, ◌*◌, ◌<◌, ◌≤◌, false, ◌⊎◌, List, [], ◌∷◌, sym, refl, ap, ◌∙◌, subst, inl, inr, ⊎_elim, mul-le-mul_right, suc-mul, arith}
+use Rattle.std.proofs.lemmas.Bool.{both_ways, cases_order, false≢true}
 use Rattle.labels.specs.declared.State.{State}
 use Rattle.labels.specs.declared.State.TheVariants.{Free, Queued, Settled}
 use Rattle.labels.specs.declared.Label.{Label}
-use Rattle.measure.specs.Kind.{Kind, Made, made_empty}
+use Rattle.measure.specs.Kind.{Kind, Made}
 use Rattle.measure.specs.Laws.{Laws}
-use Rattle.measure.specs.Ranks.{Is, Fit, ranks}
-use Rattle.catalogue.specs.Walks.{Holds, extend, Goes, Walk, Stops, Simple}
-use Rattle.catalogue.specs.Routes.{First, Outside, Crowded}
-use Rattle.labels.proofs.Extending.{extend_made, extend_over, extend_keeps}
-use Rattle.labels.specs.Labels.{is_held, is_queued, is_settled, In, Held, Waits, Done, Off, Extends, Chain, path, Has, Kept}
+use Rattle.measure.specs.Ranks.{Is}
+use Rattle.catalogue.specs.Walks.{extend, Walk}
+use Rattle.labels.proofs.Extending.{extend_over}
+use Rattle.labels.specs.Labels.{is_held, is_queued, is_settled, In, Held, Done, Off, Chain, path}
 use Rattle.labels.proofs.Cover.{goes_more}
 
 below : (k s t p : ℕ) → s < t → In k s p → In k t p → ⊥

@@ -1,10 +1,10 @@
 -- Every walk within the limit is covered, so the first queued value at the destination is best.
-use Rattle.std.proofs.Common.{◌≡◌, ℕ, Bool, true, false, ◌⊎◌, List, [], ◌∷◌, ◌++◌, sym, refl, ap, ◌∙◌, subst, inl, inr, ⊎_elim}
+use Rattle.std.proofs.Common.{◌≡◌, ℕ, false, ◌⊎◌, List, [], ◌∷◌, ◌++◌, sym, refl, ap, subst, inl, inr, ⊎_elim}
 use Rattle.measure.specs.Kind.{Kind, Made, made_empty}
 use Rattle.measure.specs.Laws.{Laws}
 use Rattle.measure.specs.Ranks.{Is, Fit, ranks}
-use Rattle.catalogue.specs.Walks.{Holds, extend, Goes, Walk, Stops, Simple}
-use Rattle.catalogue.specs.Routes.{First, Outside, Crowded}
+use Rattle.catalogue.specs.Walks.{extend, Goes, Walk}
+use Rattle.catalogue.specs.Routes.{First, Outside}
 use Rattle.labels.proofs.Extending.{extend_made, extend_over, extend_keeps, rank_extend}
 use Rattle.measure.proofs.Ranking.{rank_dom, rank_trans, fit_dom}
 

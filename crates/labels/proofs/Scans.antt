@@ -1,14 +1,11 @@
 -- What a turn of each scan over the labels keeps.
-use Rattle.std.proofs.Common.{◌≡◌, ℕ, ◌+◌, ◌*◌, ◌<◌, ◌≤◌, Bool, true, false, cond, ◌⊎◌, List, length, get_or, set, Some, None, Option, sym, refl, ap, ◌∙◌, subst, subst₂, inl, inr, ⊎_elim, arith, get_or-set_other, get_or-set_same, MatchOption}
-use Rattle.std.proofs.lemmas.Bool.{both_ways, cases_eq, cases_Bool, cases_lt, and_parts, and_cases, false≢true}
+use Rattle.std.proofs.Common.{◌≡◌, ℕ, ◌+◌, ◌<◌, ◌≤◌, false, cond, ◌⊎◌, List, length, set, Some, None, Option, sym, ap, ◌∙◌, subst, inl, inr, ⊎_elim, arith, get_or-set_other, get_or-set_same}
+use Rattle.std.proofs.lemmas.Bool.{both_ways, cases_eq, cases_Bool, cases_lt, and_parts, and_cases}
 use Rattle.labels.specs.declared.Label.{Label}
-use Rattle.measure.specs.Kind.{Kind, Made, made_empty}
+use Rattle.measure.specs.Kind.{Kind}
 use Rattle.measure.specs.Laws.{Laws}
-use Rattle.measure.specs.Ranks.{Is, Fit, ranks}
-use Rattle.catalogue.specs.Walks.{Holds, extend, Goes, Walk, Stops, Simple}
-use Rattle.catalogue.specs.Routes.{First, Outside, Crowded}
-use Rattle.labels.proofs.Extending.{extend_made, extend_over, extend_keeps}
-use Rattle.labels.specs.Labels.{is_held, is_queued, is_settled, In, Held, Waits, Done, Fits, Leader, FirstBelow, table, blank, yields, freed, cleared, Clears, Adds}
+use Rattle.measure.specs.Ranks.{Is, ranks}
+use Rattle.labels.specs.Labels.{is_held, is_queued, Held, Waits, Fits, Leader, FirstBelow, table, blank, yields, freed, cleared, Clears, Adds}
 use Rattle.measure.proofs.Ranking.{rank_trans, rank_self, rank_total}
 use Rattle.labels.proofs.Chains.{waits_held, done_held, not_both}
 

@@ -1,18 +1,17 @@
 -- What a step of the search keeps.
-use Rattle.std.proofs.Common.{◌≡◌, ℕ, suc, ◌+◌, ◌*◌, ◌<◌, ◌≤◌, Bool, true, false, cond, ltb, ◌⊎◌, List, [], ◌∷◌, ◌++◌, sym, refl, ap, ◌∙◌, subst, subst₂, inl, inr, ⊎_elim, arith}
-use Rattle.std.proofs.lemmas.Bool.{both_ways, cases_eq, cases_Bool, cases_lt, false≢true, ltb-true, ltb-false}
-use Rattle.labels.specs.declared.State.{State}
-use Rattle.labels.specs.declared.State.TheVariants.{Free, Queued, Settled}
+use Rattle.std.proofs.Common.{◌≡◌, ℕ, suc, ◌+◌, ◌*◌, ◌<◌, true, false, cond, ltb, ◌⊎◌, List, [], ◌∷◌, ◌++◌, sym, refl, ap, ◌∙◌, subst, subst₂, inl, inr, ⊎_elim, arith}
+use Rattle.std.proofs.lemmas.Bool.{both_ways, cases_eq, cases_Bool, ltb-true, ltb-false}
+use Rattle.labels.specs.declared.State.TheVariants.{Queued}
 use Rattle.labels.specs.declared.Label.{Label}
 use Rattle.measure.specs.Kind.{Kind, Made, made_empty}
 use Rattle.measure.specs.Laws.{Laws}
 use Rattle.measure.specs.Ranks.{Is, Fit, ranks}
-use Rattle.catalogue.specs.Walks.{Holds, extend, Goes, Walk, Stops, Simple}
+use Rattle.catalogue.specs.Walks.{extend, Walk}
 use Rattle.catalogue.specs.Routes.{First, Outside, Crowded}
-use Rattle.labels.proofs.Extending.{extend_made, extend_over, extend_keeps, rank_extend}
-use Rattle.labels.specs.Labels.{is_held, is_queued, is_settled, In, Held, Waits, Done, Off, Extends, Chain, path, Has, Kept, Spread, SpreadAll, Last, Settles, Adds}
+use Rattle.labels.proofs.Extending.{extend_made, extend_over, rank_extend}
+use Rattle.labels.specs.Labels.{is_held, is_queued, is_settled, In, Held, Waits, Done, Off, Chain, path, Has, Kept, Spread, SpreadAll, Last, Settles, Adds}
 use Rattle.labels.proofs.Cover.{Covered, Covers, goes_more, first_best, none_left}
-use Rattle.measure.proofs.Ranking.{rank_dom, rank_trans, rank_self, rank_antisym, fit_dom}
+use Rattle.measure.proofs.Ranking.{rank_dom, rank_trans, rank_antisym}
 use Rattle.labels.proofs.Chains.{one_site, done_held, waits_held, held_cases, not_both, Same, same_from, chain_keep, chain_walk, chain_off}
 
 module _ {V L : Type 0} {K : Kind V L} (laws : Laws K) (l : L) (adm : Is (K.limit_admitted l)) (Lead : ℕ → ℕ → ℕ → V → Type 0) (links : (p s t : ℕ) (c : V) → Lead p s t c → Made K c) (k src dst : ℕ) where

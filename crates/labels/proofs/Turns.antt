@@ -1,20 +1,20 @@
 -- What a turn of the search keeps, over the catalogue and the table of the labels.
-use Rattle.std.proofs.Common.{◌≡◌, ℕ, zero, suc, ◌+◌, ◌*◌, ◌/◌, ◌%◌, ◌<◌, ◌≤◌, Bool, true, false, cond, ◌⊎◌, List, [], ◌∷◌, length, get_or, drop, set, Some, None, Option, sym, refl, ap, ◌∙◌, subst, subst₂, inl, inr, ⊎_elim, mod-lt, div-add-mod', arith}
+use Rattle.std.proofs.Common.{◌≡◌, ℕ, zero, suc, ◌+◌, ◌*◌, ◌/◌, ◌<◌, ◌≤◌, Bool, true, false, List, [], ◌∷◌, length, drop, set, Some, Option, sym, refl, ap, ◌∙◌, subst, subst₂, ⊎_elim, mod-lt, div-add-mod', arith}
 use Rattle.labels.proofs.Scans.{table_same, table_other}
 use Rattle.std.proofs.lemmas.Bool.{both_ways, cases_eq, cases_Bool, and_parts, and_cases, false≢true}
 use Rattle.labels.specs.declared.State.{State}
 use Rattle.labels.specs.declared.State.TheVariants.{Free, Queued, Settled}
 use Rattle.labels.specs.declared.Label.{Label}
 use Rattle.catalogue.specs.declared.Link.{Link}
-use Rattle.measure.specs.Kind.{Kind, Made, made_empty}
+use Rattle.measure.specs.Kind.{Kind, Made}
 use Rattle.measure.specs.Laws.{Laws}
-use Rattle.measure.specs.Ranks.{Is, Fit, ranks}
+use Rattle.measure.specs.Ranks.{Is, ranks}
 use Rattle.catalogue.specs.Walks.{Holds, extend, Goes, Walk, Stops, Simple}
-use Rattle.catalogue.specs.Routes.{First, Outside, Crowded}
-use Rattle.labels.proofs.Extending.{extend_made, extend_over, extend_keeps}
-use Rattle.labels.specs.Labels.{is_held, is_queued, is_settled, In, Held, Waits, Done, Has, Kept, Spread, SpreadAll, Last, Settles, Adds, Steady, Offered, OffersNone, Opens, Rests, covers, Leader, table, blank, Wins, Frees, Starts, Traced, Chain, Off, Avoids}
-use Rattle.labels.proofs.Chains.{one_site, done_held, waits_held, not_both}
-use Rattle.labels.proofs.Steps.{skip_spread, crowded, add_kept, add_last, add_spread, add_done, settle_kept, settle_last, settle_spread, settle_done, settle_on, found_first, nothing_left, start_kept, start_spread}
+use Rattle.catalogue.specs.Routes.{Outside, Crowded}
+use Rattle.labels.proofs.Extending.{extend_made}
+use Rattle.labels.specs.Labels.{is_held, is_queued, is_settled, In, Held, Waits, Done, Has, Kept, Settles, Adds, Steady, Offered, OffersNone, Opens, Rests, covers, Leader, table, Wins, Frees, Starts, Traced, Chain, Off, Avoids}
+use Rattle.labels.proofs.Chains.{one_site, done_held, waits_held}
+use Rattle.labels.proofs.Steps.{skip_spread, crowded, add_kept, add_last, add_spread, add_done, settle_kept, settle_last, settle_spread, settle_done, found_first, nothing_left, start_kept, start_spread}
 
 some_same : {X : Type 0} (a b : X) → Some a ≡ Some b → a ≡ b
 some_same a b e = cc

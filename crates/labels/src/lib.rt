@@ -1,5 +1,6 @@
 //! The labels of label-setting routing, and what is kept of them from turn to turn. There is no code here: the mathematics of routing
 //! stands below its code, so that a change of the code does not prove it again.
+#![tactic(auto)]
 
 // What a label's place is used for. A queued label is still to be extended, and may give up its place; a settled one is for good.
 #[derive(Clone, Copy)]

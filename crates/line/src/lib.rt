@@ -1,4 +1,6 @@
 //! The lines that are printed, one for each record, composed as bytes in a lent buffer.
+#![tactic(auto)]
+
 ghost use Rattle.std.specs.Prelude.{◌≡◌, ◌+◌, ◌≤◌, [], map, length, decimal, nat_le};
 ghost use Rattle.line.specs.Lines.{mark_word, words, line_of};
 ghost use Rattle.line.specs.Parts.{spelled, At, Wrote};

@@ -1,5 +1,5 @@
 -- Rank is a total order on the values that count under a limit, and dominance goes with it.
-use Rattle.std.proofs.Common.{◌≡◌, ℕ, ◌*◌, ◌<◌, ◌≤◌, Bool, true, false, ◌⊎◌, sym, refl, subst, inl, inr, ⊎_elim, arith}
+use Rattle.std.proofs.Common.{◌≡◌, ℕ, ◌*◌, ◌<◌, ◌≤◌, true, false, ◌⊎◌, sym, refl, subst, inl, inr, ⊎_elim, arith}
 use Rattle.std.proofs.lemmas.Bool.{both_ways, ltb-false, eqb-false, le-ltb, ne_eqb, cases_Bool, and_cases, and_left, and_right, or_parts, or_from, cases_order, cases_lt}
 use Rattle.measure.specs.Kind.{Kind, Made}
 use Rattle.measure.specs.Laws.{Laws}

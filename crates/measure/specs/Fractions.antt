@@ -1,5 +1,5 @@
 -- Ratios by cross products.
-use Rattle.std.specs.Prelude.{◌≡◌, ℕ, ◌*◌, ◌≤◌}
+use Rattle.std.specs.Prelude.{◌*◌, ◌≤◌}
 use Rattle.std.proofs.Common.{mul-le-mul_right, le_of_mul-le-mul_right, mul_right_comm, arith}
 use Rattle.measure.specs.declared.ratio.Ratio.{Ratio}
 use Rattle.measure.specs.Laws.{Proper}

@@ -1,5 +1,5 @@
 -- The laws that every measure kind owes, of the values that can come about.
-use Rattle.std.specs.Prelude.{◌≡◌, ℕ, ◌≤◌, Bool, true, false, ◌⊎◌}
+use Rattle.std.specs.Prelude.{◌≡◌, ◌≤◌, true, false, ◌⊎◌}
 use Rattle.measure.specs.declared.ratio.Ratio.{Ratio}
 use Rattle.measure.specs.Kind.{Kind, Made}
 use Rattle.measure.specs.Ratios.{AtMost}

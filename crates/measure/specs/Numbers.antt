@@ -1,11 +1,9 @@
 -- The laws of the kinds whose values are single numbers, once for both.
-use Rattle.std.specs.Prelude.{◌≡◌, ℕ, ◌+◌, ◌≤◌, min, max, refl}
-use Rattle.std.proofs.Common.{sym, ap, ◌∙◌, inl, inr, ⊎_elim, mul-le-mul_right, arith}
-use Rattle.measure.specs.declared.scalar.Sum.{Sum}
-use Rattle.measure.specs.declared.scalar.Worst.{Worst}
-use Rattle.measure.specs.Kind.{Kind, Made, made_admitted, made_empty, made_join}
-use Rattle.measure.specs.Laws.{Laws, Proper}
-use Rattle.measure.specs.Scalars.{over, scalar_kind, sum, worst, sum_kind, worst_kind}
+use Rattle.std.specs.Prelude.{◌≡◌, ℕ, ◌≤◌, min, refl}
+use Rattle.std.proofs.Common.{ap, ◌∙◌, inl, inr, ⊎_elim, mul-le-mul_right, arith}
+use Rattle.measure.specs.Kind.{Made, made_admitted, made_empty, made_join}
+use Rattle.measure.specs.Laws.{Laws}
+use Rattle.measure.specs.Scalars.{over, scalar_kind, sum_kind, worst_kind}
 use Rattle.std.proofs.lemmas.Bool.Decides.{nat_tests}
 use Rattle.std.proofs.lemmas.Bool.{leb-true, le-leb, lt-ltb, cases_order}
 

@@ -1,4 +1,6 @@
 //! Measure kinds: what links and walks are weighed by, how two values are joined and compared, and how much of a limit one uses up.
+#![tactic(auto)]
+
 ghost use Rattle.std.specs.Prelude.{◌≡◌};
 ghost use Rattle.measure.specs.Kind.{Kind};
 ghost use Rattle.measure.specs.Laws.{Laws};

@@ -1,4 +1,6 @@
 //! The calls that keep the cards of a quote book true to its catalogue, one by one and in runs.
+#![tactic(auto)]
+
 mod changes;
 mod run;
 

@@ -10,7 +10,7 @@ use Rattle.records.specs.declared.Record.TheVariants.{Offer, Change, Withdraw, Q
 use Rattle.records.specs.declared.Reading.{Reading}
 use Rattle.records.specs.declared.Reading.TheVariants.{Record, Nothing, Refused}
 use Rattle.report.specs.Buffers.{Put}
-use Rattle.records.specs.Feed.{body_length, number16, number32, measures_at, record_of, reading_of, unread_of, Reads, Ahead}
+use Rattle.records.specs.Feed.{body_length, number16, number32, measures_at, record_of, reading_of, unread_of, Reads}
 use Rattle.records.specs.Write.{bytes16, bytes32, measures_bytes, encode, Fit, FitMeasures}
 use Rattle.records.specs.RoundTrip.{ReadsBack, WritesBack, ReadsPart, Written}
 use Rattle.records.proofs.Readings.{reads_record, reads_refused, reads_nothing, reads_placed, reads_within, reads_ahead}

@@ -1,5 +1,7 @@
 //! The records of a feed, what its bytes say at a place, and the bytes of a record. There is no code here: the mathematics of reading and
 //! writing stands below the code that reads and writes, so that a change of the code does not prove it again.
+#![tactic(auto)]
+
 use report::Refusal;
 
 // Three numbers as they came, not yet values: those of 2,147,483,648 and above stay as they are.

@@ -1,4 +1,6 @@
 //! What every call reports in the same words: why it was refused, and whether a card may be printed.
+#![tactic(auto)]
+
 ghost use Rattle.std.specs.Prelude.{◌≡◌};
 ghost use Rattle.report.specs.Refusals.{number as number_of, returned as returnedWith, values};
 

@@ -1,8 +1,7 @@
 -- What the check of a search says.
-use Rattle.std.proofs.Common.{◌≡◌, ℕ, ◌*◌, ◌<◌, ◌≤◌, Bool, true, false, cond, not, ◌||◌, eqb, ltb, leb, List, length, Some, None, Ok, Err, Option, Result, sym, refl, ap, ◌∙◌, subst, arith}
+use Rattle.std.proofs.Common.{◌≡◌, ℕ, ◌≤◌, Bool, true, false, cond, List, length, Some, None, Ok, Err, Option, Result, sym, refl, ap, subst, arith}
 use Rattle.std.proofs.lemmas.Bool.{or_parts, leb-false, ltb-false, eqb-true, not-false}
 use Rattle.measure.specs.Kind.{Kind}
-use Rattle.measure.specs.Ranks.{Is}
 use Rattle.report.specs.declared.Refusal.{Refusal}
 use Rattle.report.specs.Refusals.{topmost, unless}
 use Rattle.catalogue.specs.declared.Link.{Link}

@@ -1,11 +1,10 @@
 -- A catalogue is sound where each of its places is.
-use Rattle.std.proofs.Common.{◌≡◌, ℕ, ◌<◌, ◌≤◌, true, false, not, eqb, ltb, List, length, Some, None, Option, sym, refl, ap, ◌∙◌, arith}
+use Rattle.std.proofs.Common.{◌≡◌, ℕ, ◌<◌, ◌≤◌, false, not, List, length, Some, None, Option, sym, refl, ap, ◌∙◌}
 use Rattle.std.proofs.lemmas.Bool.{and_parts, and_from, ltb-true, lt-ltb, ne_eqb, eq-eqb, both_ways, not-true}
 use Rattle.measure.specs.Kind.{Kind}
 use Rattle.measure.specs.Ranks.{Is}
 use Rattle.catalogue.specs.declared.Link.{Link}
 use Rattle.catalogue.specs.Places.{at}
-use Rattle.catalogue.specs.Walks.{Holds}
 use Rattle.catalogue.specs.Routes.{Sound, SoundLink}
 use Rattle.labels.proofs.Finding.{holds_inside}
 use Rattle.routing.specs.Finds.{sound_link, sound_at}

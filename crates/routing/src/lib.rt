@@ -1,4 +1,6 @@
 //! Exact routing: the walk of first rank between two sites within a limit, over anything that answers a catalogue's questions.
+#![tactic(auto)]
+
 ghost use Rattle.std.specs.Prelude.{◌≡◌, ℕ, ◌+◌, ◌-◌, ◌*◌, ◌<◌, ◌≤◌, true, false, ◌++◌, length, take, drop, replicate, Ok};
 ghost use Rattle.measure.specs.Ranks.{Is};
 ghost use Rattle.report.specs.Refusals.{topmost, unless};

@@ -1,5 +1,5 @@
 -- What becomes of a record.
-use Rattle.std.specs.Prelude.{◌≡◌, ℕ, List, Some, None, Option}
+use Rattle.std.specs.Prelude.{◌≡◌, ℕ, Some, None, Option}
 use Rattle.measure.specs.declared.pair.Pair.{Pair}
 use Rattle.measure.specs.declared.scalar.Sum.{Sum}
 use Rattle.measure.specs.declared.scalar.Worst.{Worst}

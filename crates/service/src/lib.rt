@@ -1,4 +1,6 @@
 //! Records of the trunk product's feed as calls on its catalogue and quote book, and what they answer as replies to be printed.
+#![tactic(auto)]
+
 ghost use Rattle.std.specs.Prelude.{◌≡◌, ◌+◌, length};
 ghost use Rattle.cards.specs.Runs.{lent};
 ghost use Rattle.book.specs.Stores.{memory_of, SameLinks, SamePlaces};

@@ -1,4 +1,4 @@
-use Rattle.std.proofs.Common.{◌≡◌, ℕ, ◌+◌, ◌*◌, ◌≤◌, length, sym, arith, rules}
+use Rattle.std.proofs.Common.{◌*◌, arith, rules}
 use Rattle.labels.specs.Labels.{table}
 use Rattle.labels.proofs.Finding.{site_room}
 use Rattle.labels.proofs.Turns.{starts_rests}

@@ -1,8 +1,7 @@
-use Rattle.std.proofs.Common.{◌≡◌, List, sym, ap, ◌∙◌, subst, rules}
+use Rattle.std.proofs.Common.{sym, subst, rules}
 use Rattle.catalogue.specs.Walks.{Holds}
 use Rattle.catalogue.specs.Routes.{Sound, Best}
 use Rattle.labels.specs.declared.Label.{Label}
-use Rattle.labels.specs.Labels.{table}
 use Rattle.labels.proofs.Chains.{waits_held}
 use Rattle.labels.proofs.Turns.{held_inside}
 use Rattle.routing.proofs.find.Goals as goal

@@ -1,6 +1,4 @@
-use Rattle.std.proofs.Common.{◌≡◌, ℕ, length, None, sym, ap, ◌∙◌, subst}
-use Rattle.report.specs.Refusals.{topmost}
-use Rattle.routing.specs.Searching.{route_causes, Searched}
+use Rattle.std.proofs.Common.{length}
 use Rattle.routing.proofs.Refusing.{admits, unrefused, searched_refused, searched_so}
 use Rattle.routing.proofs.find_route.Goals as goal
 

@@ -1,8 +1,6 @@
-use Rattle.std.proofs.Common.{◌≡◌, ℕ, ◌≤◌, length, sym, ap, ◌∙◌, subst, arith, below_more}
+use Rattle.std.proofs.Common.{ℕ, ◌≤◌, length, sym, ap, ◌∙◌, arith, below_more}
 use Rattle.std.proofs.lemmas.Bool.{true≢false, false≢true}
-use Rattle.measure.specs.Ranks.{Is}
 use Rattle.catalogue.specs.Places.{at}
-use Rattle.catalogue.specs.Routes.{Sound}
 use Rattle.routing.specs.Finds.{sound_at}
 use Rattle.routing.proofs.Soundness.{sound_from, sound_refuted}
 use Rattle.routing.proofs.is_sound.Goals as goal

@@ -1,5 +1,4 @@
-use Rattle.std.proofs.Common.{◌≡◌, ℕ, ◌/◌, ◌<◌, length, sym, ap, ◌∙◌, subst, arith}
-use Rattle.measure.specs.Ranks.{Is}
+use Rattle.std.proofs.Common.{◌≡◌, ℕ, ◌/◌, length, ◌∙◌, subst, arith}
 use Rattle.labels.specs.Labels.{table, In, Done}
 use Rattle.labels.proofs.Chains.{not_both}
 use Rattle.labels.proofs.Steps.{settle_on, settle_done}

@@ -1,4 +1,4 @@
-use Rattle.std.proofs.Common.{◌≡◌, ℕ, suc, ◌-◌, ◌<◌, ◌≤◌, List, take, drop, sym, refl, ap, ◌∙◌, subst, arith, length-set, take-take, rules}
+use Rattle.std.proofs.Common.{◌≡◌, ℕ, suc, ◌-◌, List, take, drop, sym, refl, ap, ◌∙◌, subst, arith, length-set, take-take, rules}
 use lib.Seq.{drop-length}
 use Rattle.std.proofs.lemmas.List.{take-set}
 use Rattle.labels.specs.Labels.{table, Traced}

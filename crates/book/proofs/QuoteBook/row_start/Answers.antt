@@ -1,4 +1,4 @@
-use Rattle.std.proofs.Common.{◌≡◌, ℕ, ◌+◌, ◌*◌, ◌≤◌, length, refl, ap, subst, arith}
+use Rattle.std.proofs.Common.{ℕ, ◌+◌, ◌*◌, ◌≤◌, length, refl, ap, subst, arith}
 use Rattle.cards.proofs.Rows.{row_within}
 use Rattle.book.proofs.QuoteBook.row_start.Goals as goal
 

@@ -1,4 +1,4 @@
-use Rattle.std.proofs.Common.{◌≡◌, length, drop, Ok, Err, refl, ◌∙◌}
+use Rattle.std.proofs.Common.{length, drop, Ok, Err, refl, ◌∙◌}
 use Rattle.std.proofs.lemmas.Result.{err_from_is_err_and}
 use Rattle.report.specs.Refusals.{topmost}
 use Rattle.cards.specs.Calls.{differ, quote_causes, Quoted, quote_refused}

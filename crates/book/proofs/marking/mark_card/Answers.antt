@@ -1,4 +1,4 @@
-use Rattle.std.proofs.Common.{◌≡◌, Bool, set, Option, ap, ◌∙◌, rules}
+use Rattle.std.proofs.Common.{Bool, set, Option, ap, ◌∙◌, rules}
 use Rattle.catalogue.specs.Places.{at}
 use Rattle.cards.specs.declared.Card.{Card}
 use Rattle.cards.specs.Doubts.{lapsed, fell}

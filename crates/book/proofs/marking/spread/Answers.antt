@@ -1,4 +1,4 @@
-use Rattle.std.proofs.Common.{◌≡◌, ℕ, ◌+◌, ◌<◌, ◌≤◌, cond, List, length, set, Option, sym, ap, ◌∙◌, subst, arith}
+use Rattle.std.proofs.Common.{◌≡◌, ◌+◌, ◌<◌, ◌≤◌, cond, List, length, set, Option, sym, ap, ◌∙◌, subst, arith}
 use Rattle.catalogue.specs.Places.{at}
 use Rattle.cards.specs.declared.Card.{Card}
 use Rattle.cards.specs.Books.{Book, with_cards}

@@ -1,10 +1,9 @@
-use Rattle.std.proofs.Common.{◌≡◌, List, set, Some, None, Ok, Err, Option, Result, sym, refl, ap, ◌∙◌}
+use Rattle.std.proofs.Common.{List, set, Some, Ok, Err, Option, Result, sym, refl, ap, ◌∙◌}
 use Rattle.std.proofs.lemmas.Result.{err_from_is_err_and}
 use Rattle.report.specs.declared.Refusal.{Refusal}
 use Rattle.report.specs.Refusals.{topmost}
 use Rattle.catalogue.specs.declared.Link.{Link}
 use Rattle.catalogue.specs.Calls.{store_causes}
-use Rattle.catalogue.specs.Places.{at}
 use Rattle.cards.specs.Calls.{Offered, offer_refused, offered, differ}
 use Rattle.book.specs.Stores.{network_of, book_of}
 use Rattle.book.proofs.Booked.{same_network}

@@ -1,7 +1,6 @@
-use Rattle.std.proofs.Common.{◌≡◌, true, false, sym, ap, ◌∙◌, subst, ap₂}
-use Rattle.measure.specs.Ranks.{Is, Fit, ranks}
-use Rattle.labels.specs.Labels.{is_queued, table, Waits, Held, Leader, FirstBelow}
-use Rattle.labels.proofs.Chains.{waits_held}
+use Rattle.std.proofs.Common.{◌≡◌, false, sym, ap, ◌∙◌, subst, ap₂}
+use Rattle.measure.specs.Ranks.{Is, ranks}
+use Rattle.labels.specs.Labels.{is_queued, table, Waits, Leader, FirstBelow}
 use Rattle.labels.proofs.Scans.{leader_skip, leader_stays, leader_new}
 use Rattle.routing.proofs.scan.better.Goals as goal
 

@@ -1,6 +1,5 @@
-use Rattle.std.proofs.Common.{◌≡◌, ◌<◌, ◌≤◌, length, sym, ap, ◌∙◌, subst, arith}
-use Rattle.measure.specs.Ranks.{Is}
-use Rattle.labels.specs.Labels.{is_held, table, cleared}
+use Rattle.std.proofs.Common.{◌<◌, length, ap, ◌∙◌, arith}
+use Rattle.labels.specs.Labels.{table, cleared}
 use Rattle.labels.proofs.Scans.{clears_more}
 use Rattle.routing.proofs.step.clear_dominated.Goals as goal
 

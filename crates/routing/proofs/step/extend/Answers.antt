@@ -1,4 +1,4 @@
-use Rattle.std.proofs.Common.{◌≡◌, ℕ, ◌+◌, ◌*◌, ◌<◌, length, sym, ap, ◌∙◌, subst, arith}
+use Rattle.std.proofs.Common.{◌∙◌, arith}
 use Rattle.labels.specs.Labels.{table}
 use Rattle.labels.proofs.Finding.{opens_next, opens_rests, holds_inside}
 use Rattle.routing.proofs.step.extend.Goals as goal

@@ -1,8 +1,6 @@
-use Rattle.std.proofs.Common.{◌≡◌, ℕ, ◌+◌, ◌*◌, ◌<◌, ◌≤◌, length, sym, refl, ap, ◌∙◌, subst, arith, rules}
-use Rattle.measure.specs.Ranks.{Is}
-use Rattle.labels.specs.Labels.{table, Offered}
-use Rattle.labels.proofs.Chains.{done_held}
-use Rattle.labels.proofs.Turns.{turn_none, turn_dominated, turn_full, turn_adds, offer_made}
+use Rattle.std.proofs.Common.{refl, arith, rules}
+use Rattle.labels.specs.Labels.{table}
+use Rattle.labels.proofs.Turns.{turn_none, turn_dominated, turn_full, turn_adds}
 use Rattle.labels.proofs.Finding.{links_made, site_room}
 use Rattle.routing.proofs.step.extend_by.Goals as goal
 

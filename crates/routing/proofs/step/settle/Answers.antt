@@ -1,7 +1,5 @@
-use Rattle.std.proofs.Common.{◌≡◌, sym, ap, ◌∙◌, subst}
-use Rattle.labels.specs.declared.Label.{Label}
+use Rattle.std.proofs.Common.{ap, ◌∙◌}
 use Rattle.labels.specs.declared.State.TheVariants.{Settled}
-use Rattle.labels.specs.Labels.{table}
 use Rattle.labels.proofs.Scans.{table_same, table_other}
 use Rattle.routing.proofs.step.settle.Goals as goal
 
