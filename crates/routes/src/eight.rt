@@ -5,6 +5,7 @@ use measure::Ratio;
 use measure::pair::Pair;
 use routing::{Ask, free_label};
 use std::process::Abort;
+use std::test::Fail;
 
 fn links() -> [Link<Three>; 11] {
     [

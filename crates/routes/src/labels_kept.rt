@@ -3,6 +3,7 @@ use crate::checks::*;
 use catalogue::Catalogue;
 use routing::free_label;
 use std::process::Abort;
+use std::test::Fail;
 
 // Walks of equal value, on links of no weight, take up one label.
 #[test]

@@ -1,4 +1,6 @@
 //! Tests of routing, on networks small enough to be worked out by hand.
+#![tactic(auto)]
+
 #[cfg(test)]
 mod checks;
 #[cfg(test)]

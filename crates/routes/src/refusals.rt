@@ -5,6 +5,7 @@ use measure::pair::Pair;
 use report::Refusal;
 use routing::{Ask, find_route, free_label};
 use std::process::Abort;
+use std::test::Fail;
 
 fn ask(source: u16, destination: u16, a: u32, b: u32) -> Ask<Pair<u32, u32>> {
     Ask {

@@ -4,6 +4,7 @@ use catalogue::{Catalogue, Link};
 use measure::pair::Pair;
 use routing::{Ask, free_label};
 use std::process::Abort;
+use std::test::Fail;
 
 // A to F are 0 to 5, but B is 1: the links join A D, D E, A E, E F, E B, F B, A C and C E.
 fn six_sites() -> [Link<Two>; 8] {
