@@ -13,7 +13,25 @@ use line::Reply as Printed;
 use measure::pair::{Trunk, TrunkLimit, trunk_limits, trunk_value};
 use quotes::{QuoteBook, perform};
 use records::{Measures, Record};
+use report::Refusal;
 use routing::{Ask, Route};
+use std::io;
+use thiserror::Error;
+
+mod feeds;
+mod input;
+
+pub use feeds::{print_line, serve_feed, serve_record};
+pub use input::{read_input, serve_input};
+
+// Why the lines of a feed were not written to their end.
+#[derive(Debug, Drop, Error)]
+pub enum ServiceError {
+    #[error("turned down: {0:?}")]
+    Refused(#[from] Refusal),
+    #[error("the input or the output failed: {0}")]
+    Io(#[from] io::Error),
+}
 
 fn value(measures: Measures) -> Trunk
     ensures { result ≡ value_of measures }

@@ -1,0 +1,16 @@
+use Rattle.std.proofs.Common.{List, ℕ, subst, sym, arith}
+use Rattle.std.specs.Io.KnownBytes.{Consumes}
+use Rattle.service.proofs.Filling.{took_more, took_fits, consumes_more}
+use Rattle.service.proofs.input.read_input.Goals as goal
+
+pub loop-preserved : goal.loop-preserved
+loop-preserved g c =
+    let read = c.in_ok-n.ensures in
+    record {
+      fits = took_fits c.loop.buffer c.read.new.buf c.loop.got c.in_ok-n.n c.loop.invariant.fits read.bound.0;
+      ahead = omega arith;
+      bytes =
+          subst (λ (x : List ℕ). Consumes (g.R.Read.remaining c.args.input.now) (g.R.Read.remaining c.read.new.self) x)
+          (sym (took_more c.loop.buffer c.read.new.buf c.loop.got c.in_ok-n.n c.loop.invariant.fits read.bound.0))
+          (consumes_more _ _ _ _ _ c.loop.invariant.bytes read.bytes.0);
+    }

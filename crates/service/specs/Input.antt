@@ -1,0 +1,27 @@
+-- What is read of an input, and what the program prints of it.
+use Rattle.std.specs.Prelude.{ℕ, ◌<◌, ◌≤◌, List, length, take, replicate, Option}
+use Rattle.std.specs.Io.KnownBytes.{Consumes, IsAtEnd}
+use Rattle.cards.specs.Books.{opened_network, opened_book}
+use Rattle.cards.specs.Runs.{Memory, memory}
+use Rattle.service.specs.Serving.{TrunkValue, TrunkLimits}
+use Rattle.service.specs.Feeds.{PrintsFeed}
+
+-- these are the next bytes of the input, so many at the most, and where they are fewer, the input is at its end
+pub record TakesUpTo (room : ℕ) (was is : Option (List ℕ)) (bytes : List ℕ) : Type 0 where
+  pub fit : length bytes ≤ room
+  pub next : Consumes was is bytes
+  pub to_its_end : length bytes < room → IsAtEnd is
+
+-- the first n bytes of the buffer are the next of the input
+abbrev pub Fills : Option (List ℕ) → Option (List ℕ) → List ℕ → ℕ → Type 0
+Fills was is buffer n = (n ≤ length buffer) × TakesUpTo (length buffer) was is (take n buffer)
+
+-- a catalogue of sixteen sites and thirty-two link places, and a quote book of eight cards, just opened
+abbrev pub opened_day : Memory TrunkValue TrunkLimits
+opened_day = memory (opened_network 16 32) (opened_book 16 8 (replicate 128 0))
+
+-- the input's first 65,536 bytes are a feed, and its lines are printed
+abbrev pub PrintsInput : Option (List ℕ) → Option (List ℕ) → Option (List ℕ) → Option (List ℕ) → Type 0
+PrintsInput was is printed_before printed_after =
+    (feed : List ℕ) × TakesUpTo 65536 was is feed
+    × (after : Memory TrunkValue TrunkLimits) × PrintsFeed feed 8 opened_day printed_before printed_after after

@@ -1,0 +1,83 @@
+//! A whole feed: its records are served in order, and a line is written for each.
+ghost use Rattle.std.specs.Prelude.{◌≡◌, OnOk};
+ghost use Rattle.std.specs.Io.KnownBytes.{Appends};
+ghost use Rattle.book.specs.Stores.{memory_of, SameLinks, SamePlaces};
+ghost use Rattle.cards.specs.Runs.{lent};
+ghost use Rattle.line.specs.Lines.{line_of};
+ghost use Rattle.service.specs.Feeds.{PrintsRecord, PrintsFeed};
+
+use crate::{ServiceError, print, serve};
+use catalogue::Catalogue;
+use feed::{Reading, Record, read_record};
+use labels::Label;
+use line::{Reply as Printed, write_line};
+use measure::pair::{Trunk, TrunkLimit};
+use quotes::QuoteBook;
+use std::io::Write;
+
+// Room for the longest line: a route with a leg for each site.
+const LINE: usize = 2048;
+
+// Writes the line of the record with this number.
+pub fn print_line<W: Write>(
+    out: &mut W,
+    number: usize,
+    reply: Printed,
+    legs: &[u16],
+) -> Result<(), ServiceError>
+    ensures { OnOk result (Appends (W.Write.contents out.old) (W.Write.contents out.new) (line_of number reply legs.now)) }
+{
+    let mut buffer = [0u8; LINE];
+    let end = write_line(number, reply, legs, &mut buffer, 0)?;
+    out.write_all(&buffer[0..end])?;
+    Ok(())
+}
+
+// Serves one record, and writes its line: the legs that it prints are the first numbers of the reply.
+pub fn serve_record<W: Write>(
+    out: &mut W,
+    number: usize,
+    catalogue: &mut Catalogue<'_, Trunk>,
+    book: &mut QuoteBook<'_, Trunk, TrunkLimit>,
+    labels: &mut [Label<Trunk>],
+    k: usize,
+    reply: &mut [u16],
+    record: Record,
+) -> Result<(), ServiceError>
+    ensures printed { OnOk result (PrintsRecord (memory_of catalogue.old book.old) (lent labels.old reply.old) number «record» k (W.Write.contents out.old) (W.Write.contents out.new) (memory_of catalogue.new book.new) (lent labels.new reply.new)) }
+    ensures links { SameLinks catalogue.old catalogue.new }
+    ensures places { SamePlaces book.old book.new }
+{
+    let (printed, count) = print(serve(catalogue, book, labels, k, reply, record));
+    print_line(out, number, printed, &reply[0..count.min(reply.len())])
+}
+
+// Serves the feed's records in order, with k labels a site, and writes a line for each, up to the first that cannot be read.
+pub fn serve_feed<W: Write>(
+    out: &mut W,
+    catalogue: &mut Catalogue<'_, Trunk>,
+    book: &mut QuoteBook<'_, Trunk, TrunkLimit>,
+    labels: &mut [Label<Trunk>],
+    k: usize,
+    reply: &mut [u16],
+    feed: &[u8],
+) -> Result<(), ServiceError>
+    ensures printed { OnOk result (PrintsFeed feed.now k (memory_of catalogue.old book.old) (W.Write.contents out.old) (W.Write.contents out.new) (memory_of catalogue.new book.new)) }
+    ensures links { SameLinks catalogue.old catalogue.new }
+    ensures places { SamePlaces book.old book.new }
+{
+    let mut start = 0;
+    for turn in 0..feed.len() {
+        let number = turn + 1;
+        let (reading, rest) = read_record(feed, start);
+        match reading {
+            Reading::Record(record) => {
+                start = feed.len() - rest.len();
+                serve_record(out, number, catalogue, book, labels, k, reply, record)?;
+            }
+            Reading::Nothing => return Ok(()),
+            Reading::Refused(why) => return print_line(out, number, Printed::Refused(why), &[]),
+        }
+    }
+    Ok(())
+}

@@ -1,0 +1,76 @@
+//! The trunk product's program: the input is read as a feed and served from its first record to its last.
+ghost use Rattle.std.specs.Prelude.{IfOk, OnOk};
+ghost use Rattle.service.specs.Input.{Fills, PrintsInput};
+
+use crate::ServiceError;
+use crate::feeds::serve_feed;
+use catalogue::{Catalogue, check_size};
+use measure::pair::Trunk;
+use quotes::{QuoteBook, check_book_size};
+use routing::free_label;
+use std::io;
+use std::io::{Read, Write};
+
+const SITES: usize = 16;
+
+const PLACES: usize = 32;
+
+const CARDS: usize = 8;
+
+// How many walks routing can hold at a site.
+const LABELS: usize = 8;
+
+// A number for each card place and site.
+const ROWS: usize = 128;
+
+// A label for each site and walk.
+const WORKSPACE: usize = 128;
+
+// How much of the input is read.
+const INPUT: usize = 65536;
+
+// Fills the buffer from the reader, to the buffer's end or the reader's, and answers how many bytes came.
+pub fn read_input<R: Read>(input: &mut R, buffer: &mut [u8]) -> io::Result<usize>
+    ensures { IfOk result (Fills (R.Read.remaining input.old) (R.Read.remaining input.new) buffer.new) }
+{
+    let mut got = 0;
+    for _ in 0..buffer.len() {
+        let room = &mut buffer[got..];
+        if room.is_empty() {
+            return Ok(got);
+        }
+        let n = input.read(room)?;
+        if n == 0 {
+            return Ok(got);
+        }
+        got += n;
+    }
+    Ok(got)
+}
+
+// Opens a catalogue of sixteen sites and thirty-two link places and a quote book of eight cards, reads up to 65,536 bytes of input as a
+// feed, and writes a line for each record, with eight labels a site.
+pub fn serve_input<R: Read, W: Write>(input: &mut R, out: &mut W) -> Result<(), ServiceError>
+    ensures { OnOk result (PrintsInput (R.Read.remaining input.old) (R.Read.remaining input.new) (W.Write.contents out.old) (W.Write.contents out.new)) }
+{
+    let mut buffer = [0u8; INPUT];
+    let mut links = [None; PLACES];
+    let mut cards = [None; CARDS];
+    let mut rows = [0u16; ROWS];
+    let mut labels = [free_label::<Trunk>(); WORKSPACE];
+    let mut reply = [0u16; SITES];
+    check_size(SITES, PLACES)?;
+    check_book_size(SITES, CARDS, ROWS)?;
+    let mut catalogue = Catalogue::open(&mut links, SITES);
+    let mut book = QuoteBook::open(&mut cards, &mut rows, SITES);
+    let got = read_input(input, &mut buffer)?;
+    serve_feed(
+        out,
+        &mut catalogue,
+        &mut book,
+        &mut labels,
+        LABELS,
+        &mut reply,
+        &buffer[0..got],
+    )
+}
