@@ -4,7 +4,6 @@ use lib.Seq.{length-paste}
 use Rattle.std.proofs.lemmas.Bool.{both_ways, cases_eq, or_parts, leb-false, not-false, eqb-true, eqb-false, cond-true, cond-false, eq-eqb, ne_eqb}
 use Rattle.measure.specs.Kind.{Kind, made_admitted}
 use Rattle.measure.specs.Laws.{Laws}
-use Rattle.measure.specs.Ranks.{Is}
 use Rattle.report.specs.declared.Mark.{Mark}
 use Rattle.report.specs.declared.Mark.TheVariants.{Standing, Doubtful}
 use Rattle.report.specs.declared.Refusal.{Refusal}
@@ -34,7 +33,7 @@ use Rattle.cards.proofs.Standing.{Stands, found_stands, found_short, offer_stand
 -- a card that was asked this, with its row: where it stands, it says what is so
 pub record Right {V L : Type 0} (K : Kind V L) (n : Network V) (ask : Option (Ask L)) (card : Card V L) (row : List ℕ) : Type 0 where
   pub asked : ask ≡ Some card.ask
-  pub admitted : Is (K.limit_admitted card.ask.limit)
+  pub admitted : K.limit_admitted card.ask.limit ≡ true
   pub begins : card.ask.source < n.sites
   pub stands : card.mark ≡ Standing → Stands K n.links card.ask card.answer (legs_in row card.answer)
 
@@ -73,7 +72,7 @@ module _ {V L : Type 0} {K : Kind V L} {catalogue : List (Option (Link V))} {ask
   -- news of a link
   renewed : (after catalogue' : List (Option (Link V))) (rule : Rule V L) (cards : List (Option (Card V L))) (count : ℕ) →
       after ≡ catalogue' → Sound K n.sites after → Doubted rule b cards count →
-      ((card : Card V L) (legs : List ℕ) → Is (K.limit_admitted card.ask.limit) → rule legs card ≡ false →
+      ((card : Card V L) (legs : List ℕ) → K.limit_admitted card.ask.limit ≡ true → rule legs card ≡ false →
       Stands K n.links card.ask card.answer legs → Stands K after card.ask card.answer legs) →
       Kept K catalogue' ask (with_links n after) (with_cards b cards)
   renewed after catalogue' rule cards count eq sound' d goes_on = record {

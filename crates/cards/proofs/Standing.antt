@@ -1,10 +1,10 @@
 -- What a standing card says of the catalogue, and that it goes on being so where news does not strike the card.
-use Rattle.std.proofs.Common.{◌≡◌, ℕ, ◌<◌, ◌≤◌, false, not, ◌&&◌, ◌||◌, ◌⊎◌, List, length, set, Some, None, Option, sym, ap, ◌∙◌, subst, inl, inr, ⊎_elim, arith, take_at}
+use Rattle.std.proofs.Common.{true, ◌≡◌, ℕ, ◌<◌, ◌≤◌, false, not, ◌&&◌, ◌||◌, ◌⊎◌, List, length, set, Some, None, Option, sym, ap, ◌∙◌, subst, inl, inr, ⊎_elim, arith, take_at}
 use lib.Seq.{set-get_or}
 use Rattle.std.proofs.lemmas.Bool.{both_ways, or_parts, and_parts, and_cases, not-false, ltb-false, eq-eqb, eqb-true}
 use Rattle.measure.specs.Kind.{Kind, Made, made_empty}
 use Rattle.measure.specs.Laws.{Laws}
-use Rattle.measure.specs.Ranks.{Is, Fit, ranks}
+use Rattle.measure.specs.Ranks.{Fit, ranks}
 use Rattle.measure.specs.Ratios.{AtMost, equal}
 use Rattle.measure.proofs.Ranking.{rank_trans, rank_dom, fit_dom}
 use Rattle.catalogue.specs.declared.Link.{Link}
@@ -33,7 +33,7 @@ Beaten K l (Some route) w = ranks K l w route.value ≡ false
 -- the legs are a walk within the limit with the route's value, ratio and number of legs
 pub record Carries {V L : Type 0} (K : Kind V L) (links : List (Option (Link V))) (ask : Ask L) (route : Route V) (legs : List ℕ) : Type 0 where
   pub walk : Walk K (Holds links) ask.source legs ask.destination route.value
-  pub within : Is (K.within route.value ask.limit)
+  pub within : K.within route.value ask.limit ≡ true
   pub ratio : route.ratio ≡ K.ratio route.value ask.limit
   pub count : route.legs ≡ length legs
 
@@ -43,7 +43,7 @@ Own K links ask (Some route) legs = Carries K links ask route legs
 
 pub record Stands {V L : Type 0} (K : Kind V L) (links : List (Option (Link V))) (ask : Ask L) (answer : Option (Route V)) (legs : List ℕ) : Type 0 where
   pub own : Own K links ask answer legs
-  pub beaten : (other : List ℕ) (w : V) → Walk K (Holds links) ask.source other ask.destination w → Is (K.within w ask.limit) → Beaten K ask.limit answer w
+  pub beaten : (other : List ℕ) (w : V) → Walk K (Holds links) ask.source other ask.destination w → K.within w ask.limit ≡ true → Beaten K ask.limit answer w
 
 -- what was found stands, read back from its row, and has room in it
 module _ {V L : Type 0} (K : Kind V L) (n : Network V) (ask : Ask L) (width : ℕ) (sound : Sound K n.sites n.links) where
@@ -66,7 +66,7 @@ module _ {V L : Type 0} (K : Kind V L) (l : L) (v w : V) where
   least_of : ranks K l w v ≡ false → AtMost (K.ratio v l) (K.ratio w l)
   least_of h = ltb-false _ _ (or_parts _ _ h).0
 
-  first_of : ranks K l w v ≡ false → Is (equal (K.ratio v l) (K.ratio w l)) → K.before w v ≡ false
+  first_of : ranks K l w v ≡ false → equal (K.ratio v l) (K.ratio w l) ≡ true → K.before w v ≡ false
   first_of h e = ⊎_elim (λ n. absurd (both_ways _ n (eq-eqb _ _ (sym (eqb-true _ _ e))))) (λ f. f) (and_cases _ _ (or_parts _ _ h).1)
 
 pub best_of : {V L : Type 0} {K : Kind V L} (links : List (Option (Link V))) (ask : Ask L) (route : Route V) (legs : List ℕ) → Stands K links ask (Some route) legs → NoBetter K links ask route legs
@@ -80,15 +80,15 @@ best_of {K = K} links ask route legs st = record {
 }
 
 -- a value that does not threaten the answer, and is within the limit, is beaten
-calm_beaten : {V L : Type 0} (K : Kind V L) (l : L) (answer : Option (Route V)) (x : V) → threatens K l answer x ≡ false → Is (K.within x l) → Beaten K l answer x
+calm_beaten : {V L : Type 0} (K : Kind V L) (l : L) (answer : Option (Route V)) (x : V) → threatens K l answer x ≡ false → K.within x l ≡ true → Beaten K l answer x
 calm_beaten K l None x calm h = both_ways _ calm h
 calm_beaten K l (Some route) x calm h = ⊎_elim (λ out. absurd (both_ways _ out h)) (λ r. r) (and_cases _ _ calm)
 
 -- a write at a place of the catalogue
 module _ {V L : Type 0} {K : Kind V L} (laws : Laws K) (sites : ℕ) (links : List (Option (Link V))) (place : ℕ) (lt : place < length links) (sound : Sound K sites links)
-    (ask : Ask L) (adm : Is (K.limit_admitted ask.limit)) (answer : Option (Route V)) (legs : List ℕ) where
+    (ask : Ask L) (adm : K.limit_admitted ask.limit ≡ true) (answer : Option (Route V)) (legs : List ℕ) where
   -- what a beaten value dominates is beaten
-  beaten_by : (o : Option (Route V)) → Own K links ask o legs → (x w : V) → Fit K ask.limit x → Fit K ask.limit w → Is (K.dominates x w) → Beaten K ask.limit o x → Beaten K ask.limit o w
+  beaten_by : (o : Option (Route V)) → Own K links ask o legs → (x w : V) → Fit K ask.limit x → Fit K ask.limit w → K.dominates x w ≡ true → Beaten K ask.limit o x → Beaten K ask.limit o w
   beaten_by None own x w fx fw d h = h
   beaten_by (Some route) own x w fx fw d h =
       let fr : Fit K ask.limit route.value = record {
@@ -109,7 +109,7 @@ module _ {V L : Type 0} {K : Kind V L} (laws : Laws K) (sites : ℕ) (links : Li
 
     -- the route does not use the place, and what is written there was there with a value that dominates it, or does not threaten the answer
     stands_on : ((w : V) → Walk K (Holds links) ask.source legs ask.destination w → uses legs place ≡ false) →
-        ((s t : ℕ) (c : V) → y ≡ Some (record { start = s; end = t; value = c }) → ((b : V) × Holds links place s t b × Is (K.dominates b c)) ⊎ (threatens K ask.limit answer c ≡ false)) →
+        ((s t : ℕ) (c : V) → y ≡ Some (record { start = s; end = t; value = c }) → ((b : V) × Holds links place s t b × K.dominates b c ≡ true) ⊎ (threatens K ask.limit answer c ≡ false)) →
         Stands K links ask answer legs → Stands K (set links place y) ask answer legs
     stands_on off new st = record {
       own = own_on answer off st.own;
@@ -125,11 +125,11 @@ module _ {V L : Type 0} {K : Kind V L} (laws : Laws K) (sites : ℕ) (links : Li
           other ask.source ask.destination K.empty K.empty w made_empty made_empty (laws.dom_refl K.empty made_empty) g);
     }
       where
-        back : (p s t : ℕ) (c : V) → Holds (set links place y) p s t c → ((b : V) × Holds links p s t b × Is (K.dominates b c)) ⊎ (threatens K ask.limit answer c ≡ false)
+        back : (p s t : ℕ) (c : V) → Holds (set links place y) p s t c → ((b : V) × Holds links p s t b × K.dominates b c ≡ true) ⊎ (threatens K ask.limit answer c ≡ false)
         back p s t c has =
             ⊎_elim
             (λ h. inl (c, h, laws.dom_refl c (links_made sites links sound p s t c h)))
-            (λ h. subst (λ q. ((b : V) × Holds links q s t b × Is (K.dominates b c)) ⊎ (threatens K ask.limit answer c ≡ false)) (sym h.0) (new s t c h.1))
+            (λ h. subst (λ q. ((b : V) × Holds links q s t b × K.dominates b c ≡ true) ⊎ (threatens K ask.limit answer c ≡ false)) (sym h.0) (new s t c h.1))
             (holds_set links place y lt p s t c has)
 
   pub offer_stands : (link : Link V) → Sound K sites (set links place (Some link)) → at links place ≡ None → threatens K ask.limit answer link.value ≡ false →
@@ -152,7 +152,7 @@ module _ {V L : Type 0} {K : Kind V L} (laws : Laws K) (sites : ℕ) (links : Li
       (λ e. let parts = or_parts _ _ e in
       stands_on (Some (revalued old value)) sound' (λ w g. parts.0)
       (λ s t c is. ⊎_elim
-      (λ d. inl (subst (λ (z : Link V). (b : V) × Holds links place z.start z.end b × Is (K.dominates b z.value)) (some_same is) (old.value, here, not-false _ d)))
+      (λ d. inl (subst (λ (z : Link V). (b : V) × Holds links place z.start z.end b × K.dominates b z.value ≡ true) (some_same is) (old.value, here, not-false _ d)))
       (λ calm. inr (subst (λ (z : Link V). threatens K ask.limit answer z.value ≡ false) (some_same is) calm))
       (and_cases _ _ parts.1))
       st)

@@ -1,9 +1,8 @@
 -- Walks when a link comes, goes or gets another value.
-use Rattle.std.proofs.Common.{◌≡◌, ℕ, ◌<◌, false, ◌⊎◌, List, [], ◌∷◌, length, set, Some, None, Option, sym, refl, ◌∙◌, subst, inl, inr, ⊎_elim, length-set, get_or-set_other, get_or-set_same}
+use Rattle.std.proofs.Common.{true, ◌≡◌, ℕ, ◌<◌, false, ◌⊎◌, List, [], ◌∷◌, length, set, Some, None, Option, sym, refl, ◌∙◌, subst, inl, inr, ⊎_elim, length-set, get_or-set_other, get_or-set_same}
 use Rattle.std.proofs.lemmas.Bool.{cases_eq, or_parts, or_from, eqb-false, ne_eqb}
 use Rattle.measure.specs.Kind.{Kind, Made, made_join}
 use Rattle.measure.specs.Laws.{Laws}
-use Rattle.measure.specs.Ranks.{Is}
 use Rattle.catalogue.specs.declared.Link.{Link}
 use Rattle.catalogue.specs.Places.{at}
 use Rattle.catalogue.specs.Walks.{Holds, extend, Goes}
@@ -23,12 +22,12 @@ goes_on K Has After place keep (p ∷ ps) s t v w off (u, c, has, g) =
 
 module _ {V L : Type 0} {K : Kind V L} (laws : Laws K) (Has After : ℕ → ℕ → ℕ → V → Type 0)
     (made : (p s t : ℕ) (c : V) → Has p s t c → Made K c) (made' : (p s t : ℕ) (c : V) → After p s t c → Made K c)
-    (Calm : V → Type 0) (back : (p s t : ℕ) (c : V) → After p s t c → ((b : V) × Has p s t b × Is (K.dominates b c)) ⊎ Calm c) where
+    (Calm : V → Type 0) (back : (p s t : ℕ) (c : V) → After p s t c → ((b : V) × Has p s t b × K.dominates b c ≡ true) ⊎ Calm c) where
   -- Each link is calm, or had a value before that dominates its value. So every walk has a calm link's value that dominates its value, or
   -- had a value before that does.
-  pub goes_back : (ps : List ℕ) (s t : ℕ) (v v' w : V) → Made K v → Made K v' → Is (K.dominates v v') → Goes K After s v' ps t w →
-      ((b : V) × Goes K Has s v ps t b × Is (K.dominates b w)) ⊎ ((x : V) × Calm x × Made K x × Is (K.dominates x w))
-  goes_back [] s t v v' w mv mv' d g = inl (v, (g.0, refl), subst (λ y. Is (K.dominates v y)) g.1 d)
+  pub goes_back : (ps : List ℕ) (s t : ℕ) (v v' w : V) → Made K v → Made K v' → K.dominates v v' ≡ true → Goes K After s v' ps t w →
+      ((b : V) × Goes K Has s v ps t b × K.dominates b w ≡ true) ⊎ ((x : V) × Calm x × Made K x × K.dominates x w ≡ true)
+  goes_back [] s t v v' w mv mv' d g = inl (v, (g.0, refl), subst (λ y. K.dominates v y ≡ true) g.1 d)
   goes_back (p ∷ ps) s t v v' w mv mv' d (u, c, has, g) =
       let mc = made' p s u c has in
       let mj = made_join mv' mc in

@@ -1,7 +1,6 @@
 -- Histories of calls on a catalogue and its quote book, and what holds after each.
-use Rattle.std.specs.Prelude.{◌≡◌, ℕ, false, cond, List, [], ◌∷◌, ◌++◌, length, take, drop, replicate, Some, None, Ok, Err, Option, Result, ◌==◌, slice_set}
+use Rattle.std.specs.Prelude.{true, ◌≡◌, ℕ, false, cond, List, [], ◌∷◌, ◌++◌, length, take, drop, replicate, Some, None, Ok, Err, Option, Result, ◌==◌, slice_set}
 use Rattle.measure.specs.Kind.{Kind}
-use Rattle.measure.specs.Ranks.{Is}
 use Rattle.measure.specs.Ratios.{AtMost, equal}
 use Rattle.report.specs.declared.Mark.{Mark}
 use Rattle.report.specs.declared.Mark.TheVariants.{Standing}
@@ -151,13 +150,13 @@ pub data Happened {V L : Type 0} (K : Kind V L) (places : ℕ) : List (Event V L
 -- of legs, and every walk that joins these ends within this limit has at least that ratio, and at an equal ratio no earlier value.
 pub record NoBetter {V L : Type 0} (K : Kind V L) (links : List (Option (Link V))) (ask : Ask L) (route : Route V) (legs : List ℕ) : Type 0 where
   pub walk : Walk K (Holds links) ask.source legs ask.destination route.value
-  pub within : Is (K.within route.value ask.limit)
+  pub within : K.within route.value ask.limit ≡ true
   pub ratio : route.ratio ≡ K.ratio route.value ask.limit
   pub count : route.legs ≡ length legs
-  pub least : (other : List ℕ) (w : V) → Walk K (Holds links) ask.source other ask.destination w → Is (K.within w ask.limit) →
+  pub least : (other : List ℕ) (w : V) → Walk K (Holds links) ask.source other ask.destination w → K.within w ask.limit ≡ true →
       AtMost route.ratio (K.ratio w ask.limit)
-  pub first : (other : List ℕ) (w : V) → Walk K (Holds links) ask.source other ask.destination w → Is (K.within w ask.limit) →
-      Is (equal route.ratio (K.ratio w ask.limit)) → K.before w route.value ≡ false
+  pub first : (other : List ℕ) (w : V) → Walk K (Holds links) ask.source other ask.destination w → K.within w ask.limit ≡ true →
+      equal route.ratio (K.ratio w ask.limit) ≡ true → K.before w route.value ≡ false
 
 -- what a reading of the card would return now, given room: its mark and answer, and the legs that it would leave in the reply
 abbrev pub Reads : {V L : Type 0} → Memory V L → ℕ → Mark → Option (Route V) → List ℕ → Type 0

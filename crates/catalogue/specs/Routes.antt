@@ -1,7 +1,7 @@
 -- What routing answers: the best walk, that there is none, or that a site has too many to hold.
-use Rattle.std.specs.Prelude.{◌≡◌, ℕ, suc, ◌<◌, ◌≤◌, false, List, length, Option, ◌≢◌}
+use Rattle.std.specs.Prelude.{true, ◌≡◌, ℕ, suc, ◌<◌, ◌≤◌, false, List, length, Option, ◌≢◌}
 use Rattle.measure.specs.Kind.{Kind}
-use Rattle.measure.specs.Ranks.{Is, ranks}
+use Rattle.measure.specs.Ranks.{ranks}
 use Rattle.catalogue.specs.declared.Link.{Link}
 use Rattle.catalogue.specs.Walks.{Holds, Walk, Simple}
 
@@ -10,7 +10,7 @@ pub record SoundLink {V L : Type 0} (K : Kind V L) (sites s t : ℕ) (c : V) : T
   pub start_in : s < sites
   pub end_in : t < sites
   pub ends_apart : s ≡ t → ⊥
-  pub admitted : Is (K.admitted c)
+  pub admitted : K.admitted c ≡ true
 
 -- a catalogue as its calls make it: of a size that can be opened, and every link is such
 pub record Sound {V L : Type 0} (K : Kind V L) (sites : ℕ) (links : List (Option (Link V))) : Type 0 where
@@ -21,21 +21,21 @@ pub record Sound {V L : Type 0} (K : Kind V L) (sites : ℕ) (links : List (Opti
 module _ {V L : Type 0} (K : Kind V L) (l : L) (Has : ℕ → ℕ → ℕ → V → Type 0) where
   -- no walk from s to t within the limit ranks before the value b
   abbrev pub First : ℕ → ℕ → V → Type 0
-  First s t b = (legs : List ℕ) (w : V) → Walk K Has s legs t w → Is (K.within w l) → ranks K l w b ≡ false
+  First s t b = (legs : List ℕ) (w : V) → Walk K Has s legs t w → K.within w l ≡ true → ranks K l w b ≡ false
 
   -- the legs are a walk from s to t of the value b, within the limit, that comes by no site twice, and no walk from s to t within the limit ranks before it
   pub record Best (s t : ℕ) (legs : List ℕ) (b : V) : Type 0 where
     pub walk : Walk K Has s legs t b
     pub simple : Simple Has s legs
-    pub within : Is (K.within b l)
+    pub within : K.within b l ≡ true
     pub first : First s t b
 
   -- no walk joins s and t within the limit
   abbrev pub Outside : ℕ → ℕ → Type 0
-  Outside s t = (legs : List ℕ) (w : V) → Walk K Has s legs t w → Is (K.within w l) → ⊥
+  Outside s t = (legs : List ℕ) (w : V) → Walk K Has s legs t w → K.within w l ≡ true → ⊥
 
   -- k + 1 walks lead from s to t within the limit, and none dominates another
   pub record Crowded (k s t : ℕ) : Type 0 where
     pub value : ℕ → V
-    pub walk : (i : ℕ) → i < suc k → (legs : List ℕ) × Walk K Has s legs t (value i) × Is (K.within (value i) l)
+    pub walk : (i : ℕ) → i < suc k → (legs : List ℕ) × Walk K Has s legs t (value i) × (K.within (value i) l ≡ true)
     pub apart : (i j : ℕ) → i < suc k → j < suc k → (i ≢ j) → K.dominates (value i) (value j) ≡ false

@@ -1,12 +1,11 @@
 -- Places, states, and the chains of labels.
-use Rattle.std.proofs.Common.{◌≡◌, ℕ, suc, ◌+◌, ◌*◌, ◌<◌, ◌≤◌, false, ◌⊎◌, List, [], ◌∷◌, sym, refl, ap, ◌∙◌, subst, inl, inr, ⊎_elim, mul-le-mul_right, suc-mul, arith}
+use Rattle.std.proofs.Common.{true, ◌≡◌, ℕ, suc, ◌+◌, ◌*◌, ◌<◌, ◌≤◌, false, ◌⊎◌, List, [], ◌∷◌, sym, refl, ap, ◌∙◌, subst, inl, inr, ⊎_elim, mul-le-mul_right, suc-mul, arith}
 use Rattle.std.proofs.lemmas.Bool.{both_ways, cases_order, false≢true}
 use Rattle.labels.specs.declared.State.{State}
 use Rattle.labels.specs.declared.State.TheVariants.{Free, Queued, Settled}
 use Rattle.labels.specs.declared.Label.{Label}
 use Rattle.measure.specs.Kind.{Kind, Made}
 use Rattle.measure.specs.Laws.{Laws}
-use Rattle.measure.specs.Ranks.{Is}
 use Rattle.catalogue.specs.Walks.{extend, Walk}
 use Rattle.labels.proofs.Extending.{extend_over}
 use Rattle.labels.specs.Labels.{is_held, is_queued, is_settled, In, Held, Done, Off, Chain, path}
@@ -22,22 +21,22 @@ below k s t p lt a b =
 pub one_site : (k s t p : ℕ) → In k s p → In k t p → s ≡ t
 one_site k s t p a b = ⊎_elim (λ e. e) (⊎_elim (λ h. absurd (below k s t p h a b)) (λ h. absurd (below k t s p h b a))) (cases_order s t)
 
-pub done_held : (x : State) → Is (is_settled x) → Is (is_held x)
+pub done_held : (x : State) → is_settled x ≡ true → is_held x ≡ true
 done_held Free h = h
 done_held Queued h = refl
 done_held Settled h = h
 
-pub waits_held : (x : State) → Is (is_queued x) → Is (is_held x)
+pub waits_held : (x : State) → is_queued x ≡ true → is_held x ≡ true
 waits_held Free h = h
 waits_held Queued h = h
 waits_held Settled h = refl
 
-pub held_cases : (x : State) → Is (is_held x) → Is (is_queued x) ⊎ Is (is_settled x)
+pub held_cases : (x : State) → is_held x ≡ true → is_queued x ≡ true ⊎ is_settled x ≡ true
 held_cases Free h = inl h
 held_cases Queued h = inl h
 held_cases Settled h = inr h
 
-pub not_both : (x : State) → Is (is_queued x) → Is (is_settled x) → ⊥
+pub not_both : (x : State) → is_queued x ≡ true → is_settled x ≡ true → ⊥
 not_both Free p q = false≢true p
 not_both Queued p q = false≢true q
 not_both Settled p q = false≢true p
@@ -82,11 +81,11 @@ module _ {V L : Type 0} {K : Kind V L} (laws : Laws K) (l : L) (Lead : ℕ → �
       (goes_more laws Lead links (path K Lead k src A qs q) src ex.from t (A p).link K.empty (A q).value ex.value (chain_walk A qs q ex.from ex.in_from c.4) lead)
 
   -- a value that no label held at t dominates, and that the label at p dominates: the chain of p does not pass t
-  pub chain_off : (A : ℕ → Label V) → ((p : ℕ) → Held A p → Made K (A p).value) → (t : ℕ) (n : V) → Made K n → ((p : ℕ) → In k t p → Held A p → K.dominates (A p).value n ≡ false) → (qs : List ℕ) (p : ℕ) → Done A p → Is (K.dominates (A p).value n) → Chain K Lead k src A qs p → Off k t (p ∷ qs)
+  pub chain_off : (A : ℕ → Label V) → ((p : ℕ) → Held A p → Made K (A p).value) → (t : ℕ) (n : V) → Made K n → ((p : ℕ) → In k t p → Held A p → K.dominates (A p).value n ≡ false) → (qs : List ℕ) (p : ℕ) → Done A p → K.dominates (A p).value n ≡ true → Chain K Lead k src A qs p → Off k t (p ∷ qs)
   chain_off A made t n mn fresh [] p d dom c = (λ at. both_ways _ (fresh p at (done_held _ d)) dom, tt)
   chain_off A made t n mn fresh (q ∷ qs) p d dom c =
       let ex = c.2 in
       let mq = made q (done_held _ c.1) in
       let mp = made p (done_held _ d) in
-      let qp : Is (K.dominates (A q).value (A p).value) = subst (λ x. Is (K.dominates (A q).value x)) (sym ex.joined) (extend_over laws (A q).value ex.value mq (links (A p).link ex.from ex.to ex.value ex.leads)) in
+      let qp : K.dominates (A q).value (A p).value ≡ true = subst (λ x. K.dominates (A q).value x ≡ true) (sym ex.joined) (extend_over laws (A q).value ex.value mq (links (A p).link ex.from ex.to ex.value ex.leads)) in
       (λ at. both_ways _ (fresh p at (done_held _ d)) dom, chain_off A made t n mn fresh qs q c.1 (laws.dom_trans (A q).value (A p).value n mq mp mn qp dom) c.4)

@@ -1,8 +1,8 @@
 -- Every walk within the limit is covered, so the first queued value at the destination is best.
-use Rattle.std.proofs.Common.{◌≡◌, ℕ, false, ◌⊎◌, List, [], ◌∷◌, ◌++◌, sym, refl, ap, subst, inl, inr, ⊎_elim}
+use Rattle.std.proofs.Common.{true, ◌≡◌, ℕ, false, ◌⊎◌, List, [], ◌∷◌, ◌++◌, sym, refl, ap, subst, inl, inr, ⊎_elim}
 use Rattle.measure.specs.Kind.{Kind, Made, made_empty}
 use Rattle.measure.specs.Laws.{Laws}
-use Rattle.measure.specs.Ranks.{Is, Fit, ranks}
+use Rattle.measure.specs.Ranks.{Fit, ranks}
 use Rattle.catalogue.specs.Walks.{extend, Goes, Walk}
 use Rattle.catalogue.specs.Routes.{First, Outside}
 use Rattle.labels.proofs.Extending.{extend_made, extend_over, extend_keeps, rank_extend}
@@ -12,21 +12,21 @@ use Rattle.measure.proofs.Ranking.{rank_dom, rank_trans, fit_dom}
 module _ {V L : Type 0} (K : Kind V L) (l : L) (Lead : ℕ → ℕ → ℕ → V → Type 0) (src : ℕ) (Queued Settled : ℕ → V → Type 0) where
   -- some value held at t dominates w
   abbrev pub Covered : ℕ → V → Type 0
-  Covered t w = (v : V) × (Queued t v ⊎ Settled t v) × Is (K.dominates v w)
+  Covered t w = (v : V) × (Queued t v ⊎ Settled t v) × K.dominates v w ≡ true
 
   pub record Covers : Type 0 where
     pub queued_fit : (s : ℕ) (v : V) → Queued s v → Fit K l v
     pub settled_fit : (s : ℕ) (v : V) → Settled s v → Fit K l v
     pub start : Covered src K.empty
-    pub spread : (s : ℕ) (h : V) → Settled s h → (p t : ℕ) (c : V) → Lead p s t c → Is (K.within (extend K h c) l) → Covered t (extend K h c)
+    pub spread : (s : ℕ) (h : V) → Settled s h → (p t : ℕ) (c : V) → Lead p s t c → K.within (extend K h c) l ≡ true → Covered t (extend K h c)
 
 module _ {V L : Type 0} {K : Kind V L} (laws : Laws K) (Lead : ℕ → ℕ → ℕ → V → Type 0) (links : (p s t : ℕ) (c : V) → Lead p s t c → Made K c) where
   pub goes_made : (ps : List ℕ) (s t : ℕ) (v w : V) → Made K v → Goes K Lead s v ps t w → Made K w
   goes_made [] s t v w mv g = subst (λ x. Made K x) g.1 mv
   goes_made (p ∷ ps) s t v w mv g = goes_made ps g.0 t (extend K v g.1) w (extend_made K v g.1 mv (links p s g.0 g.1 g.2)) g.3
 
-  pub goes_dom : (ps : List ℕ) (s t : ℕ) (v w : V) → Made K v → Goes K Lead s v ps t w → Is (K.dominates v w)
-  goes_dom [] s t v w mv g = subst (λ x. Is (K.dominates v x)) g.1 (laws.dom_refl v mv)
+  pub goes_dom : (ps : List ℕ) (s t : ℕ) (v w : V) → Made K v → Goes K Lead s v ps t w → K.dominates v w ≡ true
+  goes_dom [] s t v w mv g = subst (λ x. K.dominates v x ≡ true) g.1 (laws.dom_refl v mv)
   goes_dom (p ∷ ps) s t v w mv g =
       let mc = links p s g.0 g.1 g.2 in
       let mj = extend_made K v g.1 mv mc in
@@ -38,10 +38,10 @@ module _ {V L : Type 0} {K : Kind V L} (laws : Laws K) (Lead : ℕ → ℕ → �
       (u, c, subst (λ x. Lead p x u c) (sym g.0) lead, (refl, ap (λ x. extend K x c) g.1))
   goes_more (q ∷ ps) s t u p v w c g lead = (g.0, g.1, g.2, goes_more ps g.0 t u p (extend K v g.1) w c g.3 lead)
 
-module _ {V L : Type 0} {K : Kind V L} (laws : Laws K) (l : L) (adm : Is (K.limit_admitted l)) (Lead : ℕ → ℕ → ℕ → V → Type 0) (links : (p s t : ℕ) (c : V) → Lead p s t c → Made K c) (src : ℕ) (Queued Settled : ℕ → V → Type 0) (covers : Covers K l Lead src Queued Settled) where
+module _ {V L : Type 0} {K : Kind V L} (laws : Laws K) (l : L) (adm : K.limit_admitted l ≡ true) (Lead : ℕ → ℕ → ℕ → V → Type 0) (links : (p s t : ℕ) (c : V) → Lead p s t c → Made K c) (src : ℕ) (Queued Settled : ℕ → V → Type 0) (covers : Covers K l Lead src Queued Settled) where
   -- w is dominated by a settled value at t, or some queued value ranks no later
   abbrev Reached : ℕ → V → Type 0
-  Reached t w = ((v : V) × Settled t v × Is (K.dominates v w)) ⊎ ((s : ℕ) × (v : V) × Queued s v × (ranks K l w v ≡ false))
+  Reached t w = ((v : V) × Settled t v × K.dominates v w ≡ true) ⊎ ((s : ℕ) × (v : V) × Queued s v × (ranks K l w v ≡ false))
 
   has_reached : (t : ℕ) (w : V) → Fit K l w → Covered K l Lead src Queued Settled t w → Reached t w
   has_reached t w fw (v, held, d) =
@@ -65,7 +65,7 @@ module _ {V L : Type 0} {K : Kind V L} (laws : Laws K) (l : L) (adm : Is (K.limi
       let fv = fit_dom laws l adm v (extend K v c) mv f (extend_over laws v c mv mc) in
       inr (x, q, queued, rank_trans laws l adm q v (extend K v c) (covers.queued_fit x q queued) fv f r (rank_extend laws l adm v c mv mc f))
 
-  reached_goes : (ps : List ℕ) (s t : ℕ) (v w : V) → Made K v → Goes K Lead s v ps t w → Is (K.within w l) → Reached s v → Reached t w
+  reached_goes : (ps : List ℕ) (s t : ℕ) (v w : V) → Made K v → Goes K Lead s v ps t w → K.within w l ≡ true → Reached s v → Reached t w
   reached_goes [] s t v w mv g fw r = subst (λ x. Reached x w) g.0 (subst (λ x. Reached s x) g.1 r)
   reached_goes (p ∷ ps) s t v w mv g fw r =
       let mj = extend_made K v g.1 mv (links p s g.0 g.1 g.2) in
@@ -73,7 +73,7 @@ module _ {V L : Type 0} {K : Kind V L} (laws : Laws K) (l : L) (adm : Is (K.limi
       let fj = fit_dom laws l adm (extend K v g.1) w mj (record { made = mw; within = fw }) (goes_dom laws Lead links ps g.0 t (extend K v g.1) w mj g.3) in
       reached_goes ps g.0 t (extend K v g.1) w mj g.3 fw (reached_step s g.0 p v g.1 mv g.2 fj r)
 
-  pub reached : (ps : List ℕ) (t : ℕ) (w : V) → Walk K Lead src ps t w → Is (K.within w l) → Reached t w
+  pub reached : (ps : List ℕ) (t : ℕ) (w : V) → Walk K Lead src ps t w → K.within w l ≡ true → Reached t w
   reached ps t w g fw =
       reached_goes ps src t K.empty w (made_empty) g fw
       (has_reached src K.empty (record { made = made_empty; within = laws.empty_within l adm }) covers.start)

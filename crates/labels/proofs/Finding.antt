@@ -1,8 +1,7 @@
 -- The links that leave a site, found one after the other.
-use Rattle.std.proofs.Common.{◌≡◌, ℕ, suc, ◌+◌, ◌*◌, ◌<◌, ◌≤◌, false, List, length, Some, None, Option, sym, refl, ap, ◌∙◌, subst, ⊎_elim, mul-le-mul_right, suc-mul, arith}
+use Rattle.std.proofs.Common.{true, ◌≡◌, ℕ, suc, ◌+◌, ◌*◌, ◌<◌, ◌≤◌, false, List, length, Some, None, Option, sym, refl, ap, ◌∙◌, subst, ⊎_elim, mul-le-mul_right, suc-mul, arith}
 use Rattle.std.proofs.lemmas.List.{get_or_past}
 use Rattle.std.proofs.lemmas.Bool.{cases_lt, both_ways, false≢true, eqb-true, eq-eqb}
-use Rattle.measure.specs.Ranks.{Is}
 use Rattle.catalogue.specs.Places.{at}
 use Rattle.measure.specs.Kind.{Kind, Made, made_admitted}
 use Rattle.catalogue.specs.declared.Link.{Link}
@@ -22,11 +21,11 @@ holds_inside links p s t c h =
     ⊎_elim (λ lt. lt) (λ ge. let e : None ≡ Some _ = sym (get_or_past links p None ge) ∙ h in let z : ◌≡◌ {A = ℕ} 0 1 = cc in absurd (omega arith)) (cases_lt p (length links))
 
 module _ {V : Type 0} (links : List (Option (Link V))) (p s : ℕ) where
-  starts_holds : (x : Option (Link V)) → at links p ≡ x → Is (starts_at s x) → (t : ℕ) × (c : V) × Holds links p s t c
+  starts_holds : (x : Option (Link V)) → at links p ≡ x → starts_at s x ≡ true → (t : ℕ) × (c : V) × Holds links p s t c
   starts_holds None e h = absurd (false≢true h)
   starts_holds (Some link) e h = (link.end, link.value, subst (λ (y : ℕ). Holds links p y link.end link.value) (eqb-true link.start s h) e)
 
-  pub starts_some : Is (starts_at s (at links p)) → (t : ℕ) × (c : V) × Holds links p s t c
+  pub starts_some : starts_at s (at links p) ≡ true → (t : ℕ) × (c : V) × Holds links p s t c
   starts_some h = starts_holds (at links p) refl h
 
   pub starts_none : starts_at s (at links p) ≡ false → (t : ℕ) (c : V) → Holds links p s t c → ⊥

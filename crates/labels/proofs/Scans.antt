@@ -1,15 +1,15 @@
 -- What a turn of each scan over the labels keeps.
-use Rattle.std.proofs.Common.{◌≡◌, ℕ, ◌+◌, ◌<◌, ◌≤◌, false, cond, ◌⊎◌, List, length, set, Some, None, Option, sym, ap, ◌∙◌, subst, inl, inr, ⊎_elim, arith, get_or-set_other, get_or-set_same}
+use Rattle.std.proofs.Common.{true, ◌≡◌, ℕ, ◌+◌, ◌<◌, ◌≤◌, false, cond, ◌⊎◌, List, length, set, Some, None, Option, sym, ap, ◌∙◌, subst, inl, inr, ⊎_elim, arith, get_or-set_other, get_or-set_same}
 use Rattle.std.proofs.lemmas.Bool.{both_ways, cases_eq, cases_Bool, cases_lt, and_parts, and_cases}
 use Rattle.labels.specs.declared.Label.{Label}
 use Rattle.measure.specs.Kind.{Kind}
 use Rattle.measure.specs.Laws.{Laws}
-use Rattle.measure.specs.Ranks.{Is, ranks}
+use Rattle.measure.specs.Ranks.{ranks}
 use Rattle.labels.specs.Labels.{is_held, is_queued, Held, Waits, Fits, Leader, FirstBelow, table, blank, yields, freed, cleared, Clears, Adds}
 use Rattle.measure.proofs.Ranking.{rank_trans, rank_self, rank_total}
 use Rattle.labels.proofs.Chains.{waits_held, done_held, not_both}
 
-module _ {V L : Type 0} {K : Kind V L} (laws : Laws K) (l : L) (adm : Is (K.limit_admitted l)) (A : ℕ → Label V) (i : ℕ) where
+module _ {V L : Type 0} {K : Kind V L} (laws : Laws K) (l : L) (adm : K.limit_admitted l ≡ true) (A : ℕ → Label V) (i : ℕ) where
   pub leader_skip : (r : Option ℕ) → is_queued (A i).state ≡ false → FirstBelow K l A i r → FirstBelow K l A (i + 1) r
   leader_skip None idle h = λ q lt w. ⊎_elim (λ e. both_ways _ idle (subst (Waits A) e w)) (λ ne. h q (omega arith) w) (cases_eq q i)
   leader_skip (Some b) idle h = record {
@@ -26,7 +26,7 @@ module _ {V L : Type 0} {K : Kind V L} (laws : Laws K) (l : L) (adm : Is (K.limi
       first = λ q lt w. ⊎_elim (λ e. subst (λ y. ranks K l (A y).value (A b).value ≡ false) (sym e) r) (λ ne. lead.first q (omega arith) w) (cases_eq q i);
     }
 
-    pub leader_new : Is (ranks K l (A i).value (A b).value) → Leader K l A (i + 1) i
+    pub leader_new : ranks K l (A i).value (A b).value ≡ true → Leader K l A (i + 1) i
     leader_new r =
         let fi = fits i (waits_held _ waits) in
         let fb = fits b (waits_held _ lead.waits) in
@@ -61,10 +61,10 @@ clears_more K A ys n start i x le lt e h = record {
 
 -- what clearing makes of a label
 module _ {V L : Type 0} (K : Kind V L) (n : V) (x : Label V) where
-  pub cleared_cases : (Is (yields K n x) × (cleared K n x ≡ freed x)) ⊎ ((yields K n x ≡ false) × (cleared K n x ≡ x))
+  pub cleared_cases : (yields K n x ≡ true × (cleared K n x ≡ freed x)) ⊎ ((yields K n x ≡ false) × (cleared K n x ≡ x))
   cleared_cases = ⊎_elim (λ e. inl (e, ap (λ b. cond b (freed x) x) e)) (λ e. inr (e, ap (λ b. cond b (freed x) x) e)) (cases_Bool (yields K n x))
 
-  pub yields_not : yields K n x ≡ false → Is (is_queued x.state) → K.dominates n x.value ≡ false
+  pub yields_not : yields K n x ≡ false → is_queued x.state ≡ true → K.dominates n x.value ≡ false
   yields_not e w = ⊎_elim (λ q. absurd (both_ways _ q w)) (λ d. d) (and_cases _ _ e)
 
 module _ {V L : Type 0} (K : Kind V L) (A : ℕ → Label V) (ys : List (Label V)) (y : Label V) (start end : ℕ) (clears : Clears K A (table K ys) y.value start end) where
@@ -72,7 +72,7 @@ module _ {V L : Type 0} (K : Kind V L) (A : ℕ → Label V) (ys : List (Label V
   B = table K ys
 
   -- at each place: as it was, or freed
-  clears_cases : (p : ℕ) → ((B p ≡ A p) × (start ≤ p → p < end → yields K y.value (A p) ≡ false)) ⊎ ((start ≤ p) × (p < end) × Is (yields K y.value (A p)) × (is_held (B p).state ≡ false))
+  clears_cases : (p : ℕ) → ((B p ≡ A p) × (start ≤ p → p < end → yields K y.value (A p) ≡ false)) ⊎ ((start ≤ p) × (p < end) × yields K y.value (A p) ≡ true × (is_held (B p).state ≡ false))
   clears_cases p =
       ⊎_elim
       (λ lo. inl (clears.low p lo, λ a b. absurd (omega arith)))
@@ -88,7 +88,7 @@ module _ {V L : Type 0} (K : Kind V L) (A : ℕ → Label V) (ys : List (Label V
   pub clears_full : ((p : ℕ) → start ≤ p → p < end → Held B p) → (p : ℕ) → start ≤ p → p < end → Held A p × (Waits A p → K.dominates y.value (A p).value ≡ false)
   clears_full full p a b =
       ⊎_elim
-      (λ k. (subst (λ z. Is (is_held z.state)) k.0 (full p a b), yields_not K y.value (A p) (k.1 a b)))
+      (λ k. (subst (λ z. is_held z.state ≡ true) k.0 (full p a b), yields_not K y.value (A p) (k.1 a b)))
       (λ f. absurd (both_ways _ f.3 (full p a b)))
       (clears_cases p)
 
@@ -104,11 +104,11 @@ module _ {V L : Type 0} (K : Kind V L) (A : ℕ → Label V) (ys : List (Label V
       inside = (sx, xe);
       new = table_same K ys x y in_x;
       free = λ d. ⊎_elim
-          (λ k. both_ways _ free (subst (λ z. Is (is_held z.state)) (sym k.0) (done_held _ d)))
+          (λ k. both_ways _ free (subst (λ z. is_held z.state ≡ true) (sym k.0) (done_held _ d)))
           (λ f. not_both _ (and_parts _ _ f.2).0 d)
           (clears_cases x);
       gone = λ held. ⊎_elim
-          (λ k. absurd (both_ways _ free (subst (λ z. Is (is_held z.state)) (sym k.0) held)))
+          (λ k. absurd (both_ways _ free (subst (λ z. is_held z.state ≡ true) (sym k.0) held)))
           (λ f. (and_parts _ _ f.2).1)
           (clears_cases x);
       other = λ p ne. let e = table_other K ys x y p ne in
@@ -117,9 +117,9 @@ module _ {V L : Type 0} (K : Kind V L) (A : ℕ → Label V) (ys : List (Label V
           (λ f. let parts = and_parts _ _ f.2 in inr (parts.1, (f.0, f.1), parts.0, ap (λ z. is_held z.state) e ∙ f.3))
           (clears_cases p);
       left = λ p ne at w. let e = table_other K ys x y p ne in
-          let wb = subst (λ z. Is (is_queued z.state)) e w in
+          let wb = subst (λ z. is_queued z.state ≡ true) e w in
           ⊎_elim
-          (λ k. let wa = subst (λ z. Is (is_queued z.state)) k.0 wb in
+          (λ k. let wa = subst (λ z. is_queued z.state ≡ true) k.0 wb in
           subst (λ z. K.dominates y.value z.value ≡ false) (sym (e ∙ k.0)) (yields_not K y.value (A p) (k.1 at.0 at.1) wa))
           (λ f. absurd (both_ways _ f.3 (waits_held _ wb)))
           (clears_cases p);

@@ -5,7 +5,7 @@ use Rattle.labels.specs.declared.State.TheVariants.{Queued}
 use Rattle.labels.specs.declared.Label.{Label}
 use Rattle.measure.specs.Kind.{Kind, Made, made_empty}
 use Rattle.measure.specs.Laws.{Laws}
-use Rattle.measure.specs.Ranks.{Is, Fit, ranks}
+use Rattle.measure.specs.Ranks.{Fit, ranks}
 use Rattle.catalogue.specs.Walks.{extend, Walk}
 use Rattle.catalogue.specs.Routes.{First, Outside, Crowded}
 use Rattle.labels.proofs.Extending.{extend_made, extend_over, rank_extend}
@@ -14,7 +14,7 @@ use Rattle.labels.proofs.Cover.{Covered, Covers, goes_more, first_best, none_lef
 use Rattle.measure.proofs.Ranking.{rank_dom, rank_trans, rank_antisym}
 use Rattle.labels.proofs.Chains.{one_site, done_held, waits_held, held_cases, not_both, Same, same_from, chain_keep, chain_walk, chain_off}
 
-module _ {V L : Type 0} {K : Kind V L} (laws : Laws K) (l : L) (adm : Is (K.limit_admitted l)) (Lead : ℕ → ℕ → ℕ → V → Type 0) (links : (p s t : ℕ) (c : V) → Lead p s t c → Made K c) (k src dst : ℕ) where
+module _ {V L : Type 0} {K : Kind V L} (laws : Laws K) (l : L) (adm : K.limit_admitted l ≡ true) (Lead : ℕ → ℕ → ℕ → V → Type 0) (links : (p s t : ℕ) (c : V) → Lead p s t c → Made K c) (k src dst : ℕ) where
   -- the label at h, of first rank among the queued, is settled
   module _ (A B : ℕ → Label V) (h : ℕ) (steps : Settles A B h) (waits : Waits A h) where
     settle_same : (p : ℕ) → Same A B p
@@ -31,18 +31,18 @@ module _ {V L : Type 0} {K : Kind V L} (laws : Laws K) (l : L) (adm : Is (K.limi
     settle_on p d =
         ⊎_elim
         (λ e. subst (Done B) (sym e) settle_done)
-        (λ ne. subst (λ x. Is (is_settled x.state)) (sym (steps.other p ne)) d)
+        (λ ne. subst (λ x. is_settled x.state ≡ true) (sym (steps.other p ne)) d)
         (cases_eq p h)
 
     settle_waits : (p : ℕ) → Waits B p → Waits A p
     settle_waits p w =
         ⊎_elim
         (λ e. subst (Waits A) (sym e) waits)
-        (λ ne. subst (λ x. Is (is_queued x.state)) (steps.other p ne) w)
+        (λ ne. subst (λ x. is_queued x.state ≡ true) (steps.other p ne) w)
         (cases_eq p h)
 
     settle_back : (p : ℕ) → Done B p → Done A p ⊎ (p ≡ h)
-    settle_back p d = ⊎_elim inr (λ ne. inl (subst (λ x. Is (is_settled x.state)) (steps.other p ne) d)) (cases_eq p h)
+    settle_back p d = ⊎_elim inr (λ ne. inl (subst (λ x. is_settled x.state ≡ true) (steps.other p ne) d)) (cases_eq p h)
 
     settle_held : (p : ℕ) → Held B p → Held A p
     settle_held p d =
@@ -57,9 +57,9 @@ module _ {V L : Type 0} {K : Kind V L} (laws : Laws K) (l : L) (adm : Is (K.limi
       at,
       ⊎_elim
           (λ e. subst (Held B) (sym e) (done_held _ settle_done))
-          (λ ne. subst (λ x. Is (is_held x.state)) (sym (steps.other p ne)) held)
+          (λ ne. subst (λ x. is_held x.state ≡ true) (sym (steps.other p ne)) held)
           (cases_eq p h),
-      subst (λ x. Is (K.dominates x w)) (sym (settle_same p).value) d,
+      subst (λ x. K.dominates x w ≡ true) (sym (settle_same p).value) d,
     )
 
     module _ (kept : Kept K l Lead k src dst A) (first : (q : ℕ) → Waits A q → ranks K l (A q).value (A h).value ≡ false) where
@@ -91,7 +91,7 @@ module _ {V L : Type 0} {K : Kind V L} (laws : Laws K) (l : L) (adm : Is (K.limi
           let e = (settle_same p).value in
           subst (λ x. Has K l Lead k src dst B t (extend K x c)) (sym e)
           (⊎_elim
-          (λ da. settle_has t (extend K (A p).value c) (all p s j t c da at lead (subst (λ x. Is (K.within (extend K x c) l)) e fits)))
+          (λ da. settle_has t (extend K (A p).value c) (all p s j t c da at lead (subst (λ x. K.within (extend K x c) l ≡ true) e fits)))
           (λ same. absurd (none j (low same)))
           (settle_back p d))
         where
@@ -99,18 +99,18 @@ module _ {V L : Type 0} {K : Kind V L} (laws : Laws K) (l : L) (adm : Is (K.limi
           none j h = omega arith
 
   -- the link at i brings nothing, or what it brings is held
-  pub skip_spread : (A : ℕ → Label V) (h i : ℕ) → Spread K l Lead k src dst A h i → ((s t : ℕ) (c : V) → In k s h → Lead i s t c → Is (K.within (extend K (A h).value c) l) → Has K l Lead k src dst A t (extend K (A h).value c)) → Spread K l Lead k src dst A h (i + 1)
+  pub skip_spread : (A : ℕ → Label V) (h i : ℕ) → Spread K l Lead k src dst A h i → ((s t : ℕ) (c : V) → In k s h → Lead i s t c → K.within (extend K (A h).value c) l ≡ true → Has K l Lead k src dst A t (extend K (A h).value c)) → Spread K l Lead k src dst A h (i + 1)
   skip_spread A h i spread here p s j t c d at lead low fits =
       ⊎_elim
       (λ e. ⊎_elim
-      (λ ji. subst (λ x. Has K l Lead k src dst A t (extend K (A x).value c)) (sym e) (here s t c (subst (In k s) e at) (subst (λ x. Lead x s t c) ji lead) (subst (λ x. Is (K.within (extend K (A x).value c) l)) e fits)))
+      (λ ji. subst (λ x. Has K l Lead k src dst A t (extend K (A x).value c)) (sym e) (here s t c (subst (In k s) e at) (subst (λ x. Lead x s t c) ji lead) (subst (λ x. K.within (extend K (A x).value c) l ≡ true) e fits)))
       (λ ne. spread p s j t c d at lead (λ e. let lt = low e in let less : j < i = omega arith in less) fits)
       (cases_eq j i))
       (λ ne. spread p s j t c d at lead (λ e. absurd (ne e)) fits)
       (cases_eq p h)
 
   -- the label at h, the last settled, is extended by the link at i to the value n at the site t, which no label held there dominates
-  module _ (A : ℕ → Label V) (kept : Kept K l Lead k src dst A) (h i s t : ℕ) (c : V) (done : Done A h) (last : Last K l Lead k src dst A h) (at : In k s h) (lead : Lead i s t c) (fits : Is (K.within (extend K (A h).value c) l)) (fresh : (p : ℕ) → In k t p → Held A p → K.dominates (A p).value (extend K (A h).value c) ≡ false) where
+  module _ (A : ℕ → Label V) (kept : Kept K l Lead k src dst A) (h i s t : ℕ) (c : V) (done : Done A h) (last : Last K l Lead k src dst A h) (at : In k s h) (lead : Lead i s t c) (fits : K.within (extend K (A h).value c) l ≡ true) (fresh : (p : ℕ) → In k t p → Held A p → K.dominates (A p).value (extend K (A h).value c) ≡ false) where
     abbrev n : V
     n = extend K (A h).value c
 
@@ -132,7 +132,7 @@ module _ {V L : Type 0} {K : Kind V L} (laws : Laws K) (l : L) (adm : Is (K.limi
         ⊎_elim
         (λ yes. let fp = kept.fit p (done_held _ d) in
         let e : (A p).value ≡ n = rank_antisym laws l adm (A p).value n fp fit_n (after p d) (rank_dom laws l adm n (A p).value fit_n fp yes) in
-        absurd (both_ways _ (fresh p ap (done_held _ d)) (subst (λ x. Is (K.dominates (A p).value x)) e (laws.dom_refl (A p).value fp.made))))
+        absurd (both_ways _ (fresh p ap (done_held _ d)) (subst (λ x. K.dominates (A p).value x ≡ true) e (laws.dom_refl (A p).value fp.made))))
         (λ e. e)
         (cases_Bool (K.dominates n (A p).value))
 
@@ -148,7 +148,7 @@ module _ {V L : Type 0} {K : Kind V L} (laws : Laws K) (l : L) (adm : Is (K.limi
         value j = cond (ltb j k) (A (t * k + j)).value n
 
         Walked : V → Type 0
-        Walked v = (ps : List ℕ) × Walk K Lead src ps t v × Is (K.within v l)
+        Walked v = (ps : List ℕ) × Walk K Lead src ps t v × K.within v l ≡ true
 
         inside : (j : ℕ) → j < k → In k t (t * k + j)
         inside j lt = omega arith
@@ -214,34 +214,34 @@ module _ {V L : Type 0} {K : Kind V L} (laws : Laws K) (l : L) (adm : Is (K.limi
           (add_held p (done_held _ d))
 
       add_done_back : (p : ℕ) → Done C p → Done A p
-      add_done_back p d = subst (λ y. Is (is_settled y.state)) (add_back p d) d
+      add_done_back p d = subst (λ y. is_settled y.state ≡ true) (add_back p d) d
 
       add_done_on : (p : ℕ) → Done A p → Done C p
-      add_done_on p d = subst (λ y. Is (is_settled y.state)) (sym (add_done p d)) d
+      add_done_on p d = subst (λ y. is_settled y.state ≡ true) (sym (add_done p d)) d
 
       add_has : (u : ℕ) (w : V) → Made K w → Has K l Lead k src dst A u w → Has K l Lead k src dst C u w
       add_has u w mw (p, ap, held, d) =
           ⊎_elim
-          (λ e. over (subst (In k u) e ap) (adds.gone (subst (Held A) e held)) (subst (λ y. Is (K.dominates (A y).value w)) e d) (kept.fit x (subst (Held A) e held)).made)
+          (λ e. over (subst (In k u) e ap) (adds.gone (subst (Held A) e held)) (subst (λ y. K.dominates (A y).value w ≡ true) e d) (kept.fit x (subst (Held A) e held)).made)
           (λ ne. ⊎_elim
-          (λ e. (p, ap, subst (λ y. Is (is_held y.state)) (sym e) held, subst (λ y. Is (K.dominates y.value w)) (sym e) d))
+          (λ e. (p, ap, subst (λ y. is_held y.state ≡ true) (sym e) held, subst (λ y. K.dominates y.value w ≡ true) (sym e) d))
           (λ g. over (subst (λ y. In k y x) (one_site k t u p g.1 ap) adds.inside) g.0 d (kept.fit p held).made)
           (adds.other p ne))
           (cases_eq p x)
         where
-          over : {y : V} → In k u x → Is (K.dominates n y) → Is (K.dominates y w) → Made K y → Has K l Lead k src dst C u w
-          over {y} ux ny yw my = (x, ux, waits_held _ add_waits, subst (λ z. Is (K.dominates z w)) (sym add_value) (laws.dom_trans n y w fit_n.made my mw ny yw))
+          over : {y : V} → In k u x → K.dominates n y ≡ true → K.dominates y w ≡ true → Made K y → Has K l Lead k src dst C u w
+          over {y} ux ny yw my = (x, ux, waits_held _ add_waits, subst (λ z. K.dominates z w ≡ true) (sym add_value) (laws.dom_trans n y w fit_n.made my mw ny yw))
 
       pub add_kept : Kept K l Lead k src dst C
       add_kept = record {
-        fit = λ p held. ⊎_elim (λ e. subst (λ y. Fit K l (C y).value) (sym e) (subst (Fit K l) (sym add_value) fit_n)) (λ g. subst (λ y. Fit K l y.value) (sym g.1) (kept.fit p (subst (λ y. Is (is_held y.state)) g.1 held))) (add_held p held);
+        fit = λ p held. ⊎_elim (λ e. subst (λ y. Fit K l (C y).value) (sym e) (subst (Fit K l) (sym add_value) fit_n)) (λ g. subst (λ y. Fit K l y.value) (sym g.1) (kept.fit p (subst (λ y. is_held y.state ≡ true) g.1 held))) (add_held p held);
         ordered = λ p q d w. subst (λ y. ranks K l (C q).value y.value ≡ false) (sym (add_back p d))
             (⊎_elim
             (λ e. subst (λ y. ranks K l (C y).value (A p).value ≡ false) (sym e) (subst (λ y. ranks K l y (A p).value ≡ false) (sym add_value) (after p (add_done_back p d))))
-            (λ g. subst (λ y. ranks K l y.value (A p).value ≡ false) (sym g.1) (kept.ordered p q (add_done_back p d) (subst (λ y. Is (is_queued y.state)) g.1 w)))
+            (λ g. subst (λ y. ranks K l y.value (A p).value ≡ false) (sym g.1) (kept.ordered p q (add_done_back p d) (subst (λ y. is_queued y.state ≡ true) g.1 w)))
             (add_held q (waits_held _ w)));
         apart = λ u p q pu qu hp hq ne. apart u p q pu qu hp hq ne (add_held p hp) (add_held q hq);
-        chained = λ p held. ⊎_elim (λ e. subst (λ y. (qs : List ℕ) × Chain K Lead k src C qs y) (sym e) chain_new) (λ g. let (qs, ch) = kept.chained p (subst (λ y. Is (is_held y.state)) g.1 held) in (qs, chain_keep laws l Lead links k src dst A C keep qs p (same_from A C p g.1) ch)) (add_held p held);
+        chained = λ p held. ⊎_elim (λ e. subst (λ y. (qs : List ℕ) × Chain K Lead k src C qs y) (sym e) chain_new) (λ g. let (qs, ch) = kept.chained p (subst (λ y. is_held y.state ≡ true) g.1 held) in (qs, chain_keep laws l Lead links k src dst A C keep qs p (same_from A C p g.1) ch)) (add_held p held);
         start = add_has src K.empty (made_empty) kept.start;
         ahead = λ p ap d. kept.ahead p ap (add_done_back p d);
       }
@@ -282,9 +282,9 @@ module _ {V L : Type 0} {K : Kind V L} (laws : Laws K) (l : L) (adm : Is (K.limi
               (held_cases _ hq)))
           apart u p q pu qu hp hq ne (inr g) (inl f) =
               let pt : In k t p = subst (λ y. In k y p) (one_site k u t x (subst (In k u) f qu) adds.inside) pu in
-              subst₂ (λ y z. K.dominates y.value (C z).value ≡ false) (sym g.1) (sym f) (subst (λ y. K.dominates (A p).value y ≡ false) (sym add_value) (fresh p pt (subst (λ y. Is (is_held y.state)) g.1 hp)))
+              subst₂ (λ y z. K.dominates y.value (C z).value ≡ false) (sym g.1) (sym f) (subst (λ y. K.dominates (A p).value y ≡ false) (sym add_value) (fresh p pt (subst (λ y. is_held y.state ≡ true) g.1 hp)))
           apart u p q pu qu hp hq ne (inr g) (inr f) =
-              subst₂ (λ y z. K.dominates y.value z.value ≡ false) (sym g.1) (sym f.1) (kept.apart u p q pu qu (subst (λ y. Is (is_held y.state)) g.1 hp) (subst (λ y. Is (is_held y.state)) f.1 hq) ne)
+              subst₂ (λ y z. K.dominates y.value z.value ≡ false) (sym g.1) (sym f.1) (kept.apart u p q pu qu (subst (λ y. is_held y.state ≡ true) g.1 hp) (subst (λ y. is_held y.state ≡ true) f.1 hq) ne)
 
       pub add_last : Last K l Lead k src dst C h
       add_last p d = subst₂ (λ y z. ranks K l y.value z.value ≡ false) (sym (add_done h done)) (sym (add_back p d)) (last p (add_done_back p d))
@@ -294,7 +294,7 @@ module _ {V L : Type 0} {K : Kind V L} (laws : Laws K) (l : L) (adm : Is (K.limi
       add_spread only spread p u j v b d ap ld low fit =
           let e = add_back p d in
           let da = add_done_back p d in
-          let fit' = subst (λ y. Is (K.within (extend K y.value b) l)) e fit in
+          let fit' = subst (λ y. K.within (extend K y.value b) l ≡ true) e fit in
           let mj = extend_made K (A p).value b (kept.fit p (done_held _ da)).made (links j u v b ld) in
           subst (λ y. Has K l Lead k src dst C v (extend K y.value b)) (sym e)
           (⊎_elim
@@ -307,10 +307,10 @@ module _ {V L : Type 0} {K : Kind V L} (laws : Laws K) (l : L) (adm : Is (K.limi
           (cases_eq p h))
         where
           held_n : Has K l Lead k src dst C t n
-          held_n = (x, adds.inside, waits_held _ add_waits, subst (λ y. Is (K.dominates y n)) (sym add_value) (laws.dom_refl n fit_n.made))
+          held_n = (x, adds.inside, waits_held _ add_waits, subst (λ y. K.dominates y n ≡ true) (sym add_value) (laws.dom_refl n fit_n.made))
 
 -- The end of the search, where what every settled label reaches is held.
-module _ {V L : Type 0} {K : Kind V L} (laws : Laws K) (l : L) (adm : Is (K.limit_admitted l)) (Lead : ℕ → ℕ → ℕ → V → Type 0) (links : (p s t : ℕ) (c : V) → Lead p s t c → Made K c) (k src dst : ℕ) (A : ℕ → Label V) (kept : Kept K l Lead k src dst A) (all : SpreadAll K l Lead k src dst A) where
+module _ {V L : Type 0} {K : Kind V L} (laws : Laws K) (l : L) (adm : K.limit_admitted l ≡ true) (Lead : ℕ → ℕ → ℕ → V → Type 0) (links : (p s t : ℕ) (c : V) → Lead p s t c → Made K c) (k src dst : ℕ) (A : ℕ → Label V) (kept : Kept K l Lead k src dst A) (all : SpreadAll K l Lead k src dst A) where
   abbrev At : (ℕ → Type 0) → ℕ → V → Type 0
   At P s v = (p : ℕ) × In k s p × P p × ((A p).value ≡ v)
 
@@ -325,7 +325,7 @@ module _ {V L : Type 0} {K : Kind V L} (laws : Laws K) (l : L) (adm : Is (K.limi
     spread = λ s h q p t c lead fits.
         table_has t (extend K h c)
         (subst (λ y. Has K l Lead k src dst A t (extend K y c)) q.3
-        (all q.0 s p t c q.2 q.1 lead (subst (λ y. Is (K.within (extend K y c) l)) (sym q.3) fits)));
+        (all q.0 s p t c q.2 q.1 lead (subst (λ y. K.within (extend K y c) l ≡ true) (sym q.3) fits)));
   }
 
   none_done : (v : V) → At (Done A) dst v → ⊥
@@ -342,7 +342,7 @@ module _ {V L : Type 0} {K : Kind V L} (laws : Laws K) (l : L) (adm : Is (K.limi
   nothing_left empty = none_left laws l adm Lead links src (At (Waits A)) (At (Done A)) table_covers dst none_done (λ s v q. empty q.0 q.2)
 
 -- The first table: one label is held, at the source, with the value empty.
-module _ {V L : Type 0} {K : Kind V L} (laws : Laws K) (l : L) (adm : Is (K.limit_admitted l)) (Lead : ℕ → ℕ → ℕ → V → Type 0) (k src dst : ℕ) (A : ℕ → Label V) (x : ℕ) (at : In k src x) (here : A x ≡ record { state = Queued; value = K.empty; previous = x; link = 0 }) (other : (p : ℕ) → (p ≡ x → ⊥) → is_held (A p).state ≡ false) where
+module _ {V L : Type 0} {K : Kind V L} (laws : Laws K) (l : L) (adm : K.limit_admitted l ≡ true) (Lead : ℕ → ℕ → ℕ → V → Type 0) (k src dst : ℕ) (A : ℕ → Label V) (x : ℕ) (at : In k src x) (here : A x ≡ record { state = Queued; value = K.empty; previous = x; link = 0 }) (other : (p : ℕ) → (p ≡ x → ⊥) → is_held (A p).state ≡ false) where
   only_x : (p : ℕ) → Held A p → p ≡ x
   only_x p held = ⊎_elim (λ e. e) (λ ne. absurd (both_ways _ (other p ne) held)) (cases_eq p x)
 
@@ -358,7 +358,7 @@ module _ {V L : Type 0} {K : Kind V L} (laws : Laws K) (l : L) (adm : Is (K.limi
     ordered = λ p q d w. absurd (no_done p d);
     apart = λ s p q sp sq hp hq ne. absurd (ne (only_x p hp ∙ sym (only_x q hq)));
     chained = λ p held. ([], subst (λ y. Chain K Lead k src A [] y) (sym (only_x p held)) (at, empty_at, ap (λ y. y.previous) here));
-    start = (x, at, waits_held _ (ap (λ y. is_queued y.state) here), subst (λ y. Is (K.dominates y K.empty)) (sym empty_at) (laws.dom_refl K.empty (made_empty)));
+    start = (x, at, waits_held _ (ap (λ y. is_queued y.state) here), subst (λ y. K.dominates y K.empty ≡ true) (sym empty_at) (laws.dom_refl K.empty (made_empty)));
     ahead = λ p ap d. no_done p d;
   }
 

@@ -8,7 +8,7 @@ use Rattle.labels.specs.declared.Label.{Label}
 use Rattle.catalogue.specs.declared.Link.{Link}
 use Rattle.measure.specs.Kind.{Kind, Made}
 use Rattle.measure.specs.Laws.{Laws}
-use Rattle.measure.specs.Ranks.{Is, ranks}
+use Rattle.measure.specs.Ranks.{ranks}
 use Rattle.catalogue.specs.Walks.{Holds, extend, Goes, Walk, Stops, Simple}
 use Rattle.catalogue.specs.Routes.{Outside, Crowded}
 use Rattle.labels.proofs.Extending.{extend_made}
@@ -32,26 +32,26 @@ free_not_done Free e = refl
 free_not_done Queued e = refl
 free_not_done Settled e = e
 
-waits_not_done : (x : State) → Is (is_queued x) → is_settled x ≡ false
+waits_not_done : (x : State) → is_queued x ≡ true → is_settled x ≡ false
 waits_not_done Free e = refl
 waits_not_done Queued e = refl
 waits_not_done Settled e = sym e
 
-not_done : (b : Bool) → (Is b → ⊥) → b ≡ false
+not_done : (b : Bool) → (b ≡ true → ⊥) → b ≡ false
 not_done true h = absurd (h refl)
 not_done false h = refl
 
-pub adds_steady : {V L : Type 0} (K : Kind V L) (A C : ℕ → Label V) (start end x : ℕ) (y : Label V) → Is (is_queued y.state) → Adds K A C start end x y → Steady A C
+pub adds_steady : {V L : Type 0} (K : Kind V L) (A C : ℕ → Label V) (start end x : ℕ) (y : Label V) → is_queued y.state ≡ true → Adds K A C start end x y → Steady A C
 adds_steady K A C start end x y w adds p =
     ⊎_elim
-    (λ e. subst (λ q. is_settled (C q).state ≡ is_settled (A q).state) (sym e) (waits_not_done (C x).state (subst (λ z. Is (is_queued z.state)) (sym adds.new) w) ∙ sym (not_done _ adds.free)))
+    (λ e. subst (λ q. is_settled (C q).state ≡ is_settled (A q).state) (sym e) (waits_not_done (C x).state (subst (λ z. is_queued z.state ≡ true) (sym adds.new) w) ∙ sym (not_done _ adds.free)))
     (λ ne. ⊎_elim
     (λ e. ap (λ z. is_settled z.state) e)
     (λ g. free_not_done (C p).state g.3 ∙ sym (waits_not_done (A p).state g.2))
     (adds.other p ne))
     (cases_eq p x)
 
-module _ {V L : Type 0} {K : Kind V L} (laws : Laws K) (l : L) (adm : Is (K.limit_admitted l)) (cat : List (Option (Link V))) (links : (p s t : ℕ) (c : V) → Holds cat p s t c → Made K c) (k src dst : ℕ) (A : ℕ → Label V) (h site i : ℕ) (opens : Opens K l cat k src dst A h site i) where
+module _ {V L : Type 0} {K : Kind V L} (laws : Laws K) (l : L) (adm : K.limit_admitted l ≡ true) (cat : List (Option (Link V))) (links : (p s t : ℕ) (c : V) → Holds cat p s t c → Made K c) (k src dst : ℕ) (A : ℕ → Label V) (h site i : ℕ) (opens : Opens K l cat k src dst A h site i) where
   pub turn_none : OffersNone K l cat A h site i → Opens K l cat k src dst A h site (i + 1)
   turn_none none = record {
     kept = opens.kept;
@@ -66,7 +66,7 @@ module _ {V L : Type 0} {K : Kind V L} (laws : Laws K) (l : L) (adm : Is (K.limi
     pub offer_made : Made K n
     offer_made = subst (λ y. Made K y) (sym offer.joined) (extend_made K (A h).value offer.value (opens.kept.fit h (done_held _ opens.done)).made (links i site t offer.value offer.leads))
 
-    pub turn_dominated : (p : ℕ) → In k t p → Is (covers K n (A p)) → Opens K l cat k src dst A h site (i + 1)
+    pub turn_dominated : (p : ℕ) → In k t p → covers K n (A p) ≡ true → Opens K l cat k src dst A h site (i + 1)
     turn_dominated p at_p cov = record {
       kept = opens.kept;
       done = opens.done;
@@ -75,15 +75,15 @@ module _ {V L : Type 0} {K : Kind V L} (laws : Laws K) (l : L) (adm : Is (K.limi
       spread = skip_spread laws l adm (Holds cat) links k src dst A h i opens.spread
           (λ s u c at lead fits. let (ut, cc) = leads_one cat i site t s u offer.value c offer.leads lead in
           subst (λ y. Has K l (Holds cat) k src dst A y (extend K (A h).value c)) ut
-          (p, at_p, (and_parts _ _ cov).0, subst (λ y. Is (K.dominates (A p).value y)) (offer.joined ∙ ap (extend K (A h).value) cc) (and_parts _ _ cov).1));
+          (p, at_p, (and_parts _ _ cov).0, subst (λ y. K.dominates (A p).value y ≡ true) (offer.joined ∙ ap (extend K (A h).value) cc) (and_parts _ _ cov).1));
     }
 
     module _ (fresh : (p : ℕ) → t * k ≤ p → p < t * k + k → covers K n (A p) ≡ false) where
       abbrev j : V
       j = extend K (A h).value offer.value
 
-      fits : Is (K.within j l)
-      fits = subst (λ y. Is (K.within y l)) offer.joined offer.within
+      fits : K.within j l ≡ true
+      fits = subst (λ y. K.within y l ≡ true) offer.joined offer.within
 
       fresh_j : (p : ℕ) → In k t p → Held A p → K.dominates (A p).value j ≡ false
       fresh_j p at held = subst (λ y. K.dominates (A p).value y ≡ false) offer.joined (⊎_elim (λ e. absurd (both_ways _ e held)) (λ e. e) (and_cases _ _ (fresh p at.0 at.1)))
@@ -99,7 +99,7 @@ module _ {V L : Type 0} {K : Kind V L} (laws : Laws K) (l : L) (adm : Is (K.limi
           let same : C h ≡ A h = add_done laws l adm (Holds cat) links k src dst A opens.kept h i site t offer.value opens.done opens.last opens.at offer.leads fits fresh_j C x made h opens.done in (
             record {
               kept = add_kept laws l adm (Holds cat) links k src dst A opens.kept h i site t offer.value opens.done opens.last opens.at offer.leads fits fresh_j C x made;
-              done = subst (λ y. Is (is_settled y.state)) (sym same) opens.done;
+              done = subst (λ y. is_settled y.state ≡ true) (sym same) opens.done;
               last = add_last laws l adm (Holds cat) links k src dst A opens.kept h i site t offer.value opens.done opens.last opens.at offer.leads fits fresh_j C x made;
               at = opens.at;
               spread = add_spread laws l adm (Holds cat) links k src dst A opens.kept h i site t offer.value opens.done opens.last opens.at offer.leads fits fresh_j C x made (leads_one cat) opens.spread;
@@ -114,7 +114,7 @@ place_site k p some =
     let b = mod-lt p some in
     (omega arith, omega arith)
 
-module _ {V L : Type 0} {K : Kind V L} (laws : Laws K) (l : L) (adm : Is (K.limit_admitted l)) (cat : List (Option (Link V))) (links : (p s t : ℕ) (c : V) → Holds cat p s t c → Made K c) (k src dst : ℕ) where
+module _ {V L : Type 0} {K : Kind V L} (laws : Laws K) (l : L) (adm : K.limit_admitted l ≡ true) (cat : List (Option (Link V))) (links : (p s t : ℕ) (c : V) → Holds cat p s t c → Made K c) (k src dst : ℕ) where
   pub turn_settle : (A B : ℕ → Label V) (h site : ℕ) → Rests K l cat k src dst A → Settles A B h → Waits A h → ((q : ℕ) → Waits A q → ranks K l (A q).value (A h).value ≡ false) → In k site h → (site ≡ dst → ⊥) → Opens K l cat k src dst B h site 0
   turn_settle A B h site rests steps waits first at off = record {
     kept = settle_kept laws l adm (Holds cat) links k src dst A B h steps waits rests.kept first (λ d. off (one_site k site dst h at d));
@@ -144,14 +144,14 @@ pub unsettled : {V : Type 0} → List (Label V) → ℕ
 unsettled [] = 0
 unsettled (x ∷ xs) = weight (is_settled x.state) + unsettled xs
 
-weight_le : (a b : Bool) → (Is a → Is b) → weight b ≤ weight a
+weight_le : (a b : Bool) → (a ≡ true → b ≡ true) → weight b ≤ weight a
 unfolding weight
 weight_le true true h = omega arith
 weight_le true false h = absurd (false≢true (h refl))
 weight_le false true h = omega arith
 weight_le false false h = omega arith
 
-weight_lt : (a b : Bool) → (Is a → ⊥) → Is b → weight b < weight a
+weight_lt : (a b : Bool) → (a ≡ true → ⊥) → b ≡ true → weight b < weight a
 unfolding weight
 weight_lt true true h e = absurd (h refl)
 weight_lt true false h e = absurd (h refl)
@@ -211,7 +211,7 @@ module _ {V L : Type 0} (K : Kind V L) where
       none : (p : ℕ) → is_held (table K xs p).state ≡ false
       none p = ⊎_elim (λ h. absurd (both_ways _ (all p (held_inside xs p h)) h)) (λ e. e) (cases_Bool (is_held (table K xs p).state))
 
-pub starts_rests : {V L : Type 0} {K : Kind V L} (laws : Laws K) (l : L) (adm : Is (K.limit_admitted l)) (cat : List (Option (Link V))) (k src dst : ℕ) (A : ℕ → Label V) (x : ℕ) → In k src x → Starts K A x → Rests K l cat k src dst A
+pub starts_rests : {V L : Type 0} {K : Kind V L} (laws : Laws K) (l : L) (adm : K.limit_admitted l ≡ true) (cat : List (Option (Link V))) (k src dst : ℕ) (A : ℕ → Label V) (x : ℕ) → In k src x → Starts K A x → Rests K l cat k src dst A
 starts_rests laws l adm cat k src dst A x at starts = record {
   kept = start_kept laws l adm (Holds cat) k src dst A x at starts.here starts.other;
   spread = start_spread laws l adm (Holds cat) k src dst A x at starts.here starts.other;

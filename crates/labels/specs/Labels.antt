@@ -2,7 +2,7 @@
 -- what it promises in the end is said of walks alone.
 use Rattle.std.specs.Prelude.{◌≡◌, ℕ, ◌+◌, ◌*◌, ◌<◌, ◌≤◌, Bool, true, false, cond, ◌&&◌, ◌⊎◌, List, [], ◌∷◌, ◌++◌, Some, None, Option, MatchOption, ◌==◌, ◌≢◌, slice_index_or}
 use Rattle.measure.specs.Kind.{Kind}
-use Rattle.measure.specs.Ranks.{Is, Fit, ranks}
+use Rattle.measure.specs.Ranks.{Fit, ranks}
 use Rattle.catalogue.specs.declared.Link.{Link}
 use Rattle.catalogue.specs.Walks.{Holds, extend, Goes, Stops, Simple}
 use Rattle.catalogue.specs.Routes.{First}
@@ -38,13 +38,13 @@ table K xs p = slice_index_or xs p (blank K)
 
 module _ {V : Type 0} (A : ℕ → Label V) where
   abbrev pub Held : ℕ → Type 0
-  Held p = Is (is_held (A p).state)
+  Held p = is_held (A p).state ≡ true
 
   abbrev pub Waits : ℕ → Type 0
-  Waits p = Is (is_queued (A p).state)
+  Waits p = is_queued (A p).state ≡ true
 
   abbrev pub Done : ℕ → Type 0
-  Done p = Is (is_settled (A p).state)
+  Done p = is_settled (A p).state ≡ true
 
 -- none of the places is at the site t
 abbrev pub Off : ℕ → ℕ → List ℕ → Type 0
@@ -75,7 +75,7 @@ module _ {V L : Type 0} (K : Kind V L) (Lead : ℕ → ℕ → ℕ → V → Typ
 module _ {V L : Type 0} (K : Kind V L) (l : L) (Lead : ℕ → ℕ → ℕ → V → Type 0) (k src dst : ℕ) where
   -- some label held at t dominates w
   abbrev pub Has : (ℕ → Label V) → ℕ → V → Type 0
-  Has A t w = (p : ℕ) × In k t p × Held A p × Is (K.dominates (A p).value w)
+  Has A t w = (p : ℕ) × In k t p × Held A p × (K.dominates (A p).value w ≡ true)
 
   pub record Kept (A : ℕ → Label V) : Type 0 where
     pub fit : (p : ℕ) → Held A p → Fit K l (A p).value
@@ -87,10 +87,10 @@ module _ {V L : Type 0} (K : Kind V L) (l : L) (Lead : ℕ → ℕ → ℕ → V
 
   -- what the settled labels reach by a link is held, or dominated by what is held; of the label at h, by the links below the place i
   abbrev pub Spread : (ℕ → Label V) → ℕ → ℕ → Type 0
-  Spread A h i = (p s j t : ℕ) (c : V) → Done A p → In k s p → Lead j s t c → (p ≡ h → j < i) → Is (K.within (extend K (A p).value c) l) → Has A t (extend K (A p).value c)
+  Spread A h i = (p s j t : ℕ) (c : V) → Done A p → In k s p → Lead j s t c → (p ≡ h → j < i) → K.within (extend K (A p).value c) l ≡ true → Has A t (extend K (A p).value c)
 
   abbrev pub SpreadAll : (ℕ → Label V) → Type 0
-  SpreadAll A = (p s j t : ℕ) (c : V) → Done A p → In k s p → Lead j s t c → Is (K.within (extend K (A p).value c) l) → Has A t (extend K (A p).value c)
+  SpreadAll A = (p s j t : ℕ) (c : V) → Done A p → In k s p → Lead j s t c → K.within (extend K (A p).value c) l ≡ true → Has A t (extend K (A p).value c)
 
   -- no settled label ranks after the one at h
   abbrev pub Last : (ℕ → Label V) → ℕ → Type 0
@@ -106,8 +106,8 @@ pub record Adds {V L : Type 0} (K : Kind V L) (A C : ℕ → Label V) (start end
   pub inside : (start ≤ x) × (x < end)
   pub new : C x ≡ y
   pub free : (Done A x → ⊥)
-  pub gone : Held A x → Is (K.dominates y.value (A x).value)
-  pub other : (p : ℕ) → (p ≢ x) → (C p ≡ A p) ⊎ (Is (K.dominates y.value (A p).value) × ((start ≤ p) × (p < end)) × Waits A p × (is_held (C p).state ≡ false))
+  pub gone : Held A x → K.dominates y.value (A x).value ≡ true
+  pub other : (p : ℕ) → (p ≢ x) → (C p ≡ A p) ⊎ ((K.dominates y.value (A p).value ≡ true) × ((start ≤ p) × (p < end)) × Waits A p × (is_held (C p).state ≡ false))
   pub left : (p : ℕ) → (p ≢ x) → (start ≤ p) × (p < end) → Waits C p → K.dominates y.value (C p).value ≡ false
 
 module _ {V L : Type 0} (K : Kind V L) (l : L) (A : ℕ → Label V) where
@@ -156,7 +156,7 @@ module _ {V L : Type 0} (K : Kind V L) (l : L) (cat : List (Option (Link V))) wh
     pub value : V
     pub leads : Holds cat i site t value
     pub joined : n ≡ extend K (A h).value value
-    pub within : Is (K.within n l)
+    pub within : K.within n l ≡ true
 
   -- the link at i takes it nowhere within the limit
   abbrev pub OffersNone : (ℕ → Label V) → ℕ → ℕ → ℕ → Type 0

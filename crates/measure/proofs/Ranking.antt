@@ -3,15 +3,15 @@ use Rattle.std.proofs.Common.{◌≡◌, ℕ, ◌*◌, ◌<◌, ◌≤◌, true,
 use Rattle.std.proofs.lemmas.Bool.{both_ways, ltb-false, eqb-false, le-ltb, ne_eqb, cases_Bool, and_cases, and_left, and_right, or_parts, or_from, cases_order, cases_lt}
 use Rattle.measure.specs.Kind.{Kind, Made}
 use Rattle.measure.specs.Laws.{Laws}
-use Rattle.measure.specs.Ranks.{Is, Fit, ranks}
+use Rattle.measure.specs.Ranks.{Fit, ranks}
 use Rattle.measure.specs.Fractions.{at_most_trans}
 
-module _ {V L : Type 0} {K : Kind V L} (laws : Laws K) (l : L) (adm : Is (K.limit_admitted l)) where
+module _ {V L : Type 0} {K : Kind V L} (laws : Laws K) (l : L) (adm : K.limit_admitted l ≡ true) where
   -- of two values neither of which comes first, both are the same
   before_same : (a b : V) → Made K a → Made K b → K.before a b ≡ false → K.before b a ≡ false → a ≡ b
   before_same a b ma mb p q = ⊎_elim (λ h. absurd (both_ways _ p h)) (⊎_elim (λ e. e) (λ h. absurd (both_ways _ q h))) (laws.before_total a b ma mb)
 
-  dom_not_after : (a b : V) → Made K a → Made K b → Is (K.dominates a b) → K.before b a ≡ false
+  dom_not_after : (a b : V) → Made K a → Made K b → K.dominates a b ≡ true → K.before b a ≡ false
   dom_not_after a b ma mb d =
       ⊎_elim
       (λ h. ⊎_elim (λ e. absurd (both_ways _ (laws.before_never a ma) (laws.before_trans a b a ma mb ma h e))) (λ e. e) (cases_Bool (K.before b a)))
@@ -48,7 +48,7 @@ module _ {V L : Type 0} {K : Kind V L} (laws : Laws K) (l : L) (adm : Is (K.limi
   cross a b (inl h) = omega arith
   cross a b (inr h) = omega (arith, h.0)
 
-  not_both : (a b : V) → Fit K l a → Fit K l b → Is (K.before a b) → K.before b a ≡ false
+  not_both : (a b : V) → Fit K l a → Fit K l b → K.before a b ≡ true → K.before b a ≡ false
   not_both a b fa fb h =
       ⊎_elim
       (λ e. absurd (both_ways _ (laws.before_never a fa.made) (laws.before_trans a b a fa.made fb.made fa.made h e)))
@@ -106,10 +106,10 @@ module _ {V L : Type 0} {K : Kind V L} (laws : Laws K) (l : L) (adm : Is (K.limi
       go (inr h) (inl k) = absurd (omega (arith, h.0))
       go (inr h) (inr k) = before_same a b fa.made fb.made k.1 h.1
 
-  pub rank_dom : (a b : V) → Fit K l a → Fit K l b → Is (K.dominates a b) → ranks K l b a ≡ false
+  pub rank_dom : (a b : V) → Fit K l a → Fit K l b → K.dominates a b ≡ true → ranks K l b a ≡ false
   rank_dom a b fa fb d =
       let r : lo a b ≤ lo b a = laws.ratio_rises a b l fa.made fb.made adm d fb.within in
       parts_le a b (⊎_elim inl (λ ge. inr (omega arith, dom_not_after a b fa.made fb.made d)) (cases_lt (lo a b) (lo b a)))
 
-  pub fit_dom : (a b : V) → Made K a → Fit K l b → Is (K.dominates a b) → Fit K l a
+  pub fit_dom : (a b : V) → Made K a → Fit K l b → K.dominates a b ≡ true → Fit K l a
   fit_dom a b ma fb d = record { made = ma; within = laws.within_down a b l ma fb.made d fb.within }

@@ -7,11 +7,7 @@ use Rattle.measure.specs.Ratios.{less, equal}
 abbrev pub ranks : {V L : Type 0} → Kind V L → L → V → V → Bool
 ranks k l a b = less (k.ratio a l) (k.ratio b l) || (equal (k.ratio a l) (k.ratio b l) && k.before a b)
 
--- a test that passes
-abbrev pub Is : Bool → Type 0
-Is b = b ≡ true
-
 -- a value that counts under a limit: it can come about, and is within the limit
 pub record Fit {V L : Type 0} (k : Kind V L) (l : L) (a : V) : Type 0 where
   pub made : Made k a
-  pub within : Is (k.within a l)
+  pub within : k.within a l ≡ true

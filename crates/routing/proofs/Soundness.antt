@@ -1,8 +1,7 @@
 -- A catalogue is sound where each of its places is.
-use Rattle.std.proofs.Common.{◌≡◌, ℕ, ◌<◌, ◌≤◌, false, not, List, length, Some, None, Option, sym, refl, ap, ◌∙◌}
+use Rattle.std.proofs.Common.{true, ◌≡◌, ℕ, ◌<◌, ◌≤◌, false, not, List, length, Some, None, Option, sym, refl, ap, ◌∙◌}
 use Rattle.std.proofs.lemmas.Bool.{and_parts, and_from, ltb-true, lt-ltb, ne_eqb, eq-eqb, both_ways, not-true}
 use Rattle.measure.specs.Kind.{Kind}
-use Rattle.measure.specs.Ranks.{Is}
 use Rattle.catalogue.specs.declared.Link.{Link}
 use Rattle.catalogue.specs.Places.{at}
 use Rattle.catalogue.specs.Routes.{Sound, SoundLink}
@@ -10,7 +9,7 @@ use Rattle.labels.proofs.Finding.{holds_inside}
 use Rattle.routing.specs.Finds.{sound_link, sound_at}
 
 module _ {V L : Type 0} (K : Kind V L) (sites : ℕ) (links : List (Option (Link V))) where
-  link_sound : (s t : ℕ) (c : V) → Is (sound_link K sites (record { start = s; end = t; value = c })) → SoundLink K sites s t c
+  link_sound : (s t : ℕ) (c : V) → sound_link K sites (record { start = s; end = t; value = c }) ≡ true → SoundLink K sites s t c
   link_sound s t c h =
       let a = and_parts _ _ h in
       let b = and_parts _ _ a.1 in
@@ -22,18 +21,18 @@ module _ {V L : Type 0} (K : Kind V L) (sites : ℕ) (links : List (Option (Link
         admitted = d.1;
       }
 
-  sound_link_passes : (s t : ℕ) (c : V) → SoundLink K sites s t c → Is (sound_link K sites (record { start = s; end = t; value = c }))
+  sound_link_passes : (s t : ℕ) (c : V) → SoundLink K sites s t c → sound_link K sites (record { start = s; end = t; value = c }) ≡ true
   sound_link_passes s t c h =
       and_from _ _ (lt-ltb _ _ h.start_in) (and_from _ _ (lt-ltb _ _ h.end_in) (and_from _ _ (ap not (ne_eqb s t h.ends_apart)) h.admitted))
 
-  pub sound_from : sites ≤ 256 → length links ≤ 4096 → ((p : ℕ) → p < length links → Is (sound_at K sites (at links p))) → Sound K sites links
+  pub sound_from : sites ≤ 256 → length links ≤ 4096 → ((p : ℕ) → p < length links → sound_at K sites (at links p) ≡ true) → Sound K sites links
   sound_from few-sites few-places all = record {
     sites_few = few-sites;
     places_few = few-places;
     each = λ p s t c h. link_sound s t c (sym (ap (sound_at K sites) h) ∙ all p (holds_inside links p s t c h));
   }
 
-  at_sound : Sound K sites links → (p : ℕ) (x : Option (Link V)) → at links p ≡ x → Is (sound_at K sites x)
+  at_sound : Sound K sites links → (p : ℕ) (x : Option (Link V)) → at links p ≡ x → sound_at K sites x ≡ true
   at_sound sound p None e = refl
   at_sound sound p (Some link) e = sound_link_passes link.start link.end link.value (sound.each p link.start link.end link.value e)
 

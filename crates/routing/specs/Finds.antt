@@ -1,7 +1,6 @@
 -- What the parts of routing find.
 use Rattle.std.specs.Prelude.{◌≡◌, ℕ, ◌*◌, ◌<◌, ◌≤◌, Bool, true, not, ◌&&◌, List, length, Some, None, Option, ◌==◌, nat_lt}
 use Rattle.measure.specs.Kind.{Kind}
-use Rattle.measure.specs.Ranks.{Is}
 use Rattle.catalogue.specs.declared.Link.{Link}
 use Rattle.catalogue.specs.Walks.{Holds, Walk, Simple}
 use Rattle.catalogue.specs.Routes.{Outside, Crowded}
@@ -34,7 +33,7 @@ WroteLegs K cat s t w n row r = (legs : List ℕ) × (row ≡ row_of legs n) × 
 -- what a call that is not refused knows of its arguments
 pub record Admits {V L : Type 0} (K : Kind V L) (sites room k : ℕ) (ask : Ask L) (row : ℕ) : Type 0 where
   pub source : ask.source < sites
-  pub limit : Is (K.limit_admitted ask.limit)
+  pub limit : K.limit_admitted ask.limit ≡ true
   pub size : room ≡ sites * k
   pub some : 0 < k
   pub fits : sites ≤ row

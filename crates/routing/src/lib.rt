@@ -2,7 +2,6 @@
 #![tactic(auto)]
 
 ghost use Rattle.std.specs.Prelude.{◌≡◌, ℕ, ◌+◌, ◌-◌, ◌*◌, ◌<◌, ◌≤◌, true, false, ◌++◌, length, take, drop, replicate, Ok};
-ghost use Rattle.measure.specs.Ranks.{Is};
 ghost use Rattle.report.specs.Refusals.{topmost, unless};
 ghost use Rattle.catalogue.specs.Walks.{Holds, Walk, Simple};
 ghost use Rattle.catalogue.specs.Routes.{Sound};
@@ -103,7 +102,7 @@ fn run<M: Measure, N: Links<M>>(
     ends: Ends,
     limit: M::Limit,
 ) -> Found
-    requires admitted { Is (M.Measure.kind.limit_admitted limit) }
+    requires admitted { M.Measure.kind.limit_admitted limit ≡ true }
     requires sound { Sound M.Measure.kind (N.Links.span network.now) (N.Links.links network.now) }
     requires size { length labels.old ≡ N.Links.span network.now * k }
     requires some { 0 < k }
@@ -131,7 +130,7 @@ fn explore<M: Measure, N: Links<M>>(
     ends: Ends,
     limit: M::Limit,
 ) -> Found
-    requires admitted { Is (M.Measure.kind.limit_admitted limit) }
+    requires admitted { M.Measure.kind.limit_admitted limit ≡ true }
     requires sound { Sound M.Measure.kind (N.Links.span network.now) (N.Links.links network.now) }
     requires size { length labels.old ≡ N.Links.span network.now * k }
     requires some { 0 < k }

@@ -1,6 +1,6 @@
 //! What routing looks for among its labels and links.
 ghost use Rattle.std.specs.Prelude.{◌≡◌, ℕ, ◌+◌, ◌<◌, ◌≤◌, true, false, length, MatchOption};
-ghost use Rattle.measure.specs.Ranks.{Is, ranks};
+ghost use Rattle.measure.specs.Ranks.{ranks};
 ghost use Rattle.labels.specs.Labels.{is_held, is_queued, table, Fits, FirstBelow, covers, Held, NextLink, starts_at};
 ghost use Rattle.catalogue.specs.Places.{at as place_at};
 
@@ -48,7 +48,7 @@ fn better<M: Measure>(
     i: usize,
     limit: M::Limit,
 ) -> Option<usize>
-    requires admitted { Is (M.Measure.kind.limit_admitted limit) }
+    requires admitted { M.Measure.kind.limit_admitted limit ≡ true }
     requires fits { Fits M.Measure.kind limit (table M.Measure.kind labels.now) }
     requires inside { i < length labels.now }
     requires best { FirstBelow M.Measure.kind limit (table M.Measure.kind labels.now) i best }
@@ -71,7 +71,7 @@ fn better<M: Measure>(
 
 // The queued label of first rank.
 pub(crate) fn first_queued<M: Measure>(labels: &[Label<M>], limit: M::Limit) -> Option<usize>
-    requires admitted { Is (M.Measure.kind.limit_admitted limit) }
+    requires admitted { M.Measure.kind.limit_admitted limit ≡ true }
     requires fits { Fits M.Measure.kind limit (table M.Measure.kind labels.now) }
     ensures { FirstBelow M.Measure.kind limit (table M.Measure.kind labels.now) (length labels.now) result }
 {
@@ -91,7 +91,7 @@ pub(crate) fn is_dominated<M: Measure>(
 ) -> bool
     requires order { start ≤ end }
     requires inside { end ≤ length labels.now }
-    ensures some { result ≡ true → (p : ℕ) × (start ≤ p) × (p < end) × Is (covers M.Measure.kind value (table M.Measure.kind labels.now p)) }
+    ensures some { result ≡ true → (p : ℕ) × (start ≤ p) × (p < end) × covers M.Measure.kind value (table M.Measure.kind labels.now p) ≡ true }
     ensures none { result ≡ false → (p : ℕ) → start ≤ p → p < end → covers M.Measure.kind value (table M.Measure.kind labels.now p) ≡ false }
 {
     for i in start..end {

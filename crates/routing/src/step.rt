@@ -1,6 +1,5 @@
 //! How routing changes its labels.
 ghost use Rattle.std.specs.Prelude.{◌≡◌, ℕ, ◌+◌, ◌*◌, ◌<◌, ◌≤◌, true, false, length, MatchOption};
-ghost use Rattle.measure.specs.Ranks.{Is};
 ghost use Rattle.catalogue.specs.Walks.{Holds};
 ghost use Rattle.catalogue.specs.Routes.{Sound, Crowded};
 ghost use Rattle.labels.specs.Labels.{table, cleared, Clears, Settles, Adds, Steady, Held, Waits, Offered, OffersNone, Opens, Rests, Frees, Starts};
@@ -122,7 +121,7 @@ fn extend_by<M: Measure, N: Links<M>>(
     h: usize,
     i: usize,
 ) -> Option<usize>
-    requires admitted { Is (M.Measure.kind.limit_admitted limit) }
+    requires admitted { M.Measure.kind.limit_admitted limit ≡ true }
     requires sound { Sound M.Measure.kind (N.Links.span network.now) (N.Links.links network.now) }
     requires size { length labels.old ≡ N.Links.span network.now * k }
     requires held { h < length labels.old }
@@ -160,7 +159,7 @@ pub(crate) fn extend<M: Measure, N: Links<M>>(
     limit: M::Limit,
     h: usize,
 ) -> Option<usize>
-    requires admitted { Is (M.Measure.kind.limit_admitted limit) }
+    requires admitted { M.Measure.kind.limit_admitted limit ≡ true }
     requires sound { Sound M.Measure.kind (N.Links.span network.now) (N.Links.links network.now) }
     requires size { length labels.old ≡ N.Links.span network.now * k }
     requires held { h < length labels.old }

@@ -1,5 +1,5 @@
-use Rattle.std.proofs.Common.{◌≡◌, false, sym, ap, ◌∙◌, subst, ap₂}
-use Rattle.measure.specs.Ranks.{Is, ranks}
+use Rattle.std.proofs.Common.{true, ◌≡◌, false, sym, ap, ◌∙◌, subst, ap₂}
+use Rattle.measure.specs.Ranks.{ranks}
 use Rattle.labels.specs.Labels.{is_queued, table, Waits, Leader, FirstBelow}
 use Rattle.labels.proofs.Scans.{leader_skip, leader_stays, leader_new}
 use Rattle.routing.proofs.scan.better.Goals as goal
@@ -18,7 +18,7 @@ returns-then-outranks g c =
     let A = table K c.args.labels.now in
     let wi : Waits A c.args.i = ap (λ y. is_queued y.state) (sym c.at-label.ensures) ∙ sym c.is_queued.ensures ∙ c.if-not-is_queued.false in
     let lead : Leader K l A c.args.i c.in-Some.b = subst (FirstBelow K l A c.args.i) c.in-Some.is c.requires.best in
-    let r : Is (ranks K l (A c.args.i).value (A c.in-Some.b).value) = ap₂ (λ y z. ranks K l y.value z.value) (sym c.at-label.ensures) (sym c.at-leader.ensures) ∙ sym c.outranks.ensures ∙ c.if-outranks.true in
+    let r : ranks K l (A c.args.i).value (A c.in-Some.b).value ≡ true = ap₂ (λ y z. ranks K l y.value z.value) (sym c.at-label.ensures) (sym c.at-leader.ensures) ∙ sym c.outranks.ensures ∙ c.if-outranks.true in
     leader_new g.met.M.Measure.lawful l c.requires.admitted A c.args.i c.requires.fits c.in-Some.b lead wi r
 
 pub returns-else-outranks : goal.returns-else-outranks
