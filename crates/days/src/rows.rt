@@ -4,9 +4,9 @@ use cards::{Call, Card};
 use catalogue::Catalogue;
 use labels::{Label, State};
 use measure::pair::{Trunk, TrunkLimit, trunk_limits, trunk_value};
-use quotes::{QuoteBook, discard, quote as quote_card, read as read_card, recheck as recheck_card};
+use quotes::{QuoteBook, quote as quote_card, read as read_card, recheck as recheck_card};
 use report::{Mark, Refusal};
-use routing::{Ask, Route, free_label};
+use routing::{Ask, free_label};
 use std::process::Abort;
 use std::test::Fail;
 
@@ -147,11 +147,20 @@ fn reading(
     (told, reply)
 }
 
-fn answered(answer: Result<Option<Route<Trunk>>, Refusal>) -> Told<Trunk> {
-    match answer {
-        Ok(found) => shown(Mark::Standing, found),
+// A recheck with these labels tells this.
+fn check_recheck(
+    rt: &impl Abort,
+    day: &mut TrunkDay<'_>,
+    labels: &mut [Label<Trunk>],
+    card: usize,
+    k: usize,
+    want: Told<Trunk>,
+) {
+    let told = match recheck_card(&day.catalogue, &mut day.book, labels, card, k) {
+        Ok(answer) => shown(Mark::Standing, answer),
         Err(why) => Told::Refused(why),
-    }
+    };
+    assert_eq!(rt; told, want, "of {card} with {k}");
 }
 
 // Card 0 has two legs, and card 1 none.
@@ -207,33 +216,20 @@ fn rechecks_and_the_workspace(rt: HostRuntime) {
         reply: &mut reply,
     };
     let best = best(Mark::Standing, 2, trunk_value(6, 6, 1), 6, 10);
+    let none = Told::NoWay(Mark::Standing);
+    let misfit = Told::Refused(Refusal::WorkspaceSize);
+    let quoted = [(quote(0, 0, 3, trunk_limits(10, 10, 4), 2), best)];
+    let struck = [(Call::Withdraw { place: 1 }, Told::Count(1))];
     check_calls(&rt, &mut day, &two_links());
-    check_calls(
-        &rt,
-        &mut day,
-        &[(quote(0, 0, 3, trunk_limits(10, 10, 4), 2), best)],
-    );
-    for (card, k, want) in [
-        (0, 2, best),
-        (0, 1, Told::Refused(Refusal::WorkspaceSize)),
-        (1, 2, Told::Refused(Refusal::CardEmpty)),
-    ] {
-        let found = recheck_card(&day.catalogue, &mut day.book, &mut lent, card, k);
-        assert_eq!(rt; answered(found), want, "of {card}");
-        check_used(&rt, &lent);
-    }
-    check_calls(
-        &rt,
-        &mut day,
-        &[(Call::Withdraw { place: 1 }, Told::Count(1))],
-    );
-    let refused = recheck_card(&day.catalogue, &mut day.book, &mut lent, 0, 1);
-    assert_eq!(rt; answered(refused), Told::Refused(Refusal::WorkspaceSize));
+    check_calls(&rt, &mut day, &quoted);
+    check_recheck(&rt, &mut day, &mut lent, 0, 2, best);
+    check_recheck(&rt, &mut day, &mut lent, 0, 1, misfit);
+    check_calls(&rt, &mut day, &struck);
+    check_recheck(&rt, &mut day, &mut lent, 0, 1, misfit);
     check_used(&rt, &lent);
-    let found = recheck_card(&day.catalogue, &mut day.book, &mut lent, 0, 2);
-    assert_eq!(rt; answered(found), Told::NoWay(Mark::Standing));
+    check_recheck(&rt, &mut day, &mut lent, 0, 2, none);
     check_free(&rt, &lent);
-    check_calls(&rt, &mut day, &[(read(0), Told::NoWay(Mark::Standing))]);
+    check_calls(&rt, &mut day, &[(read(0), none)]);
     assert_eq!(rt; rows, [0, 0, 0, 0, 7, 7, 7, 7]);
 }
 
@@ -270,8 +266,7 @@ fn a_full_site_leaves_card_and_row(rt: HostRuntime) {
     ];
     check_calls(&rt, &mut day, &two_links());
     check_calls(&rt, &mut day, &calls);
-    let found = recheck_card(&day.catalogue, &mut day.book, &mut lent, 0, 1);
-    assert_eq!(rt; answered(found), full);
+    check_recheck(&rt, &mut day, &mut lent, 0, 1, full);
     check_free(&rt, &lent);
     assert_eq!(rt; rows, [1, 2, 0, 0, 7, 7, 7, 7]);
 }

@@ -84,6 +84,11 @@ fn the_class_counts(rt: HostRuntime) {
     check_trunk(&rt, &calls, [9; 4]);
 }
 
+// A route of two legs with this delay, the price 8 and class 2.
+fn two_legs(mark: Mark, delay: u32) -> Told<Trunk> {
+    best(mark, 2, trunk_value(delay, 8, 2), 8, 10)
+}
+
 // The seven calls one by one, each carried out.
 #[test]
 fn each_call_by_itself(rt: HostRuntime) -> Result<(), Fail> {
@@ -104,25 +109,16 @@ fn each_call_by_itself(rt: HostRuntime) -> Result<(), Fail> {
     assert_eq!(rt; quotes::offer(&mut network, &mut book, 4, first), Ok(0));
     assert_eq!(rt; quotes::offer(&mut network, &mut book, 2, second), Ok(0));
     let found = quotes::quote(&network, &mut book, &mut labels, 0, ask, 4)?;
-    assert_eq!(rt;
-        shown(Mark::Standing, found),
-        best(Mark::Standing, 2, trunk_value(7, 8, 2), 8, 10)
-    );
+    assert_eq!(rt; shown(Mark::Standing, found), two_legs(Mark::Standing, 7));
     assert_eq!(rt;
         quotes::change(&mut network, &mut book, 2, trunk_value(4, 2, 2)),
         Ok(1)
     );
     let found = quotes::recheck(&network, &mut book, &mut labels, 0, 4)?;
-    assert_eq!(rt;
-        shown(Mark::Standing, found),
-        best(Mark::Standing, 2, trunk_value(6, 8, 2), 8, 10)
-    );
+    assert_eq!(rt; shown(Mark::Standing, found), two_legs(Mark::Standing, 6));
     assert_eq!(rt; quotes::withdraw(&mut network, &mut book, 4), Ok(1));
     let (mark, answer) = quotes::read(&book, 0, &mut reply, 0)?;
-    assert_eq!(rt;
-        shown(mark, answer),
-        best(Mark::Doubtful, 2, trunk_value(6, 8, 2), 8, 10)
-    );
+    assert_eq!(rt; shown(mark, answer), two_legs(Mark::Doubtful, 6));
     assert_eq!(rt; reply, [4, 2, 9, 9]);
     assert_eq!(rt; quotes::discard(&mut book, 0), Ok(()));
     assert_eq!(rt; rows, [0; 4]);
