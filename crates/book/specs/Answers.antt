@@ -13,9 +13,11 @@ use Rattle.cards.specs.declared.Card.{Card}
 use Rattle.cards.specs.Books.{Network, Book, with_card}
 use Rattle.cards.specs.Calls.{Found, Overfull}
 
+-- a catalogue of so many sites that holds these links
 abbrev pub network_with : {V : Type 0} → ℕ → List (Option (Link V)) → Network V
 network_with sites links = record { sites = sites; links = links }
 
+-- a card that was asked this, with this answer and mark
 abbrev pub card_of : {V L : Type 0} → Ask L → Option (Route V) → Mark → Card V L
 card_of ask answer mark = record { ask = ask; answer = answer; mark = mark }
 

@@ -7,6 +7,7 @@ use Rattle.cards.specs.Books.{Network, Book, book_size_answer, opened_network}
 use Rattle.cards.specs.Runs.{Memory, memory, Happened}
 use Rattle.book.specs.declared.QuoteBook.{QuoteBook}
 
+-- what a catalogue holds
 abbrev pub network_of : {V : Type 0} → Catalogue V → Network V
 network_of c = record { sites = c.sites; links = c.links.now }
 
@@ -15,9 +16,11 @@ network_of c = record { sites = c.sites; links = c.links.now }
 abbrev pub row_width : ℕ → ℕ → ℕ → ℕ
 row_width sites cards rows = cond (rows == cards * sites) sites 0
 
+-- what a quote book holds
 abbrev pub book_of : {V L : Type 0} → QuoteBook V L → Book V L
 book_of q = record { width = row_width q.sites (length q.cards.now) (length q.rows.now); cards = q.cards.now; rows = q.rows.now }
 
+-- what a catalogue and its quote book hold
 abbrev pub memory_of : {V L : Type 0} → Catalogue V → QuoteBook V L → Memory V L
 memory_of c q = memory (network_of c) (book_of q)
 
@@ -25,6 +28,7 @@ memory_of c q = memory (network_of c) (book_of q)
 abbrev pub SameLinks : {V : Type 0} → Catalogue V → Catalogue V → Type 0
 SameLinks c c' = c'.links.ghost_name ≡ c.links.ghost_name
 
+-- the card places and rows are the same memory as before, whatever they hold
 abbrev pub SamePlaces : {V L : Type 0} → QuoteBook V L → QuoteBook V L → Type 0
 SamePlaces q q' = (q'.cards.ghost_name ≡ q.cards.ghost_name) × (q'.rows.ghost_name ≡ q.rows.ghost_name)
 

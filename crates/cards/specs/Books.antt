@@ -25,32 +25,37 @@ abbrev pub book_size_answer : ℕ → ℕ → ℕ → Result (Unit {0}) Refusal
 book_size_answer sites cards rows =
     unless (topmost ((nat_lt cards 1 || nat_lt 256 cards || not (rows == cards * sites), QuoteBookSize) ∷ [])) (Ok tt)
 
--- a catalogue and a quote book just opened: all places are empty, and the rows are as they came
+-- a catalogue just opened: all places are empty
 abbrev pub opened_network : {V : Type 0} → ℕ → ℕ → Network V
 opened_network sites places = record { sites = sites; links = replicate places None }
 
+-- a quote book just opened: all card places are empty, and the rows are as they came
 abbrev pub opened_book : {V L : Type 0} → ℕ → ℕ → List ℕ → Book V L
 opened_book width cards rows = record { width = width; cards = replicate cards None; rows = rows }
 
--- the same with other links, with other cards, and with another card and its row: the legs, then zeros
+-- the same catalogue with other links
 abbrev pub with_links : {V : Type 0} → Network V → List (Option (Link V)) → Network V
 with_links n links = record { sites = n.sites; links = links }
 
+-- the same quote book with other cards
 abbrev pub with_cards : {V L : Type 0} → Book V L → List (Option (Card V L)) → Book V L
 with_cards b cards = record { width = b.width; cards = cards; rows = b.rows }
 
+-- the same quote book with another card at the place c, and in its row these legs, then zeros
 abbrev pub with_card : {V L : Type 0} → Book V L → ℕ → Option (Card V L) → List ℕ → Book V L
 with_card b c card legs =
     record { width = b.width; cards = slice_set b.cards c card; rows = paste b.rows (c * b.width) (row_of legs b.width) b.width }
 
--- the row of a card, how many legs an answer has, and the legs in a row
+-- the row of the card at the place c
 abbrev pub row_at : ℕ → List ℕ → ℕ → List ℕ
 row_at width rows c = take width (drop (c * width) rows)
 
+-- how many legs an answer has
 abbrev pub leg_count : {V : Type 0} → Option (Route V) → ℕ
 leg_count None = 0
 leg_count (Some route) = route.legs
 
+-- the legs of an answer in a row
 abbrev pub legs_in : {V : Type 0} → List ℕ → Option (Route V) → List ℕ
 legs_in row answer = take (leg_count answer) row
 

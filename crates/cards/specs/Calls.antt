@@ -27,25 +27,31 @@ use Rattle.cards.specs.Doubts.{Doubted, struck_by_offer, struck_by_change, struc
 abbrev pub differ : {V L : Type 0} → Network V → Book V L → Bool × Refusal
 differ n b = (not (b.width == n.sites), SitesDiffer)
 
+-- there is no such card place
 abbrev pub no_card : {V L : Type 0} → Book V L → ℕ → Bool × Refusal
 no_card b card = (nat_le (length b.cards) card, NoSuchCard)
 
+-- the card place is empty
 abbrev pub card_empty : {V L : Type 0} → Book V L → ℕ → Bool × Refusal
 card_empty b card = (not (is_some (at b.cards card)), CardEmpty)
 
+-- why an offer is refused
 abbrev pub offer_causes : {V L : Type 0} → Kind V L → Network V → Book V L → ℕ → Link V → List (Bool × Refusal)
 offer_causes K n b place link = differ n b ∷ store_causes K n.sites n.links place link
 
+-- why a change is refused
 abbrev pub change_causes : {V L : Type 0} → Kind V L → Network V → Book V L → ℕ → V → List (Bool × Refusal)
 change_causes K n b place value = differ n b ∷ replace_causes K n.links place value
 
+-- why a withdrawal is refused
 abbrev pub withdraw_causes : {V L : Type 0} → Network V → Book V L → ℕ → List (Bool × Refusal)
 withdraw_causes n b place = differ n b ∷ remove_causes n.links place
 
--- an end of what is asked is no site; its limit is not admitted
+-- an end of what is asked is no site
 abbrev pub ends_out : {V L : Type 0} → Network V → Ask L → Bool
 ends_out n ask = nat_le n.sites ask.source || nat_le n.sites ask.destination
 
+-- the limit of what is asked is not admitted
 abbrev pub limit_out : {V L : Type 0} → Kind V L → Ask L → Bool
 limit_out K ask = not (K.limit_admitted ask.limit)
 
@@ -66,6 +72,7 @@ recheck_causes K n b room card k =
     differ n b ∷ no_card b card ∷ (of_ask (ends_out n) (at b.cards card), NoSuchSite) ∷ (of_ask (limit_out K) (at b.cards card), LimitNotAdmitted)
     ∷ card_empty b card ∷ (ill_sized n.sites room k, WorkspaceSize) ∷ []
 
+-- why a discard is refused
 abbrev pub discard_causes : {V L : Type 0} → Book V L → ℕ → List (Bool × Refusal)
 discard_causes b card = no_card b card ∷ card_empty b card ∷ []
 
@@ -95,6 +102,7 @@ Overfull K n ask k site = Crowded K ask.limit (Holds n.links) k ask.source site
 abbrev pub Emptied : {V L : Type 0} → Kind V L → List (Label V) → Type 0
 Emptied K labels = Frees (table K labels) (length labels)
 
+-- a standing card that was asked this, with this answer
 abbrev pub standing_card : {V L : Type 0} → Ask L → Option (Route V) → Card V L
 standing_card ask answer = record { ask = ask; answer = answer; mark = Standing }
 

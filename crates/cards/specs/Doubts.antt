@@ -54,6 +54,7 @@ next Doubtful Struck = Doubtful
 next Doubtful Spared = Doubtful
 next Doubtful Answered = Standing
 
+-- whether a mark is standing
 abbrev pub is_standing : Mark → Bool
 is_standing Standing = true
 is_standing Doubtful = false
@@ -62,13 +63,16 @@ is_standing Doubtful = false
 abbrev pub marked : {V L : Type 0} → Card V L → Mark → Card V L
 marked card mark = record { ask = card.ask; answer = card.answer; mark = mark }
 
+-- what happens to the mark of a card that news strikes, or does not
 abbrev pub event_of : Bool → MarkEvent
 event_of struck = cond struck Struck Spared
 
+-- what stands at a card place after news that strikes the card or not
 abbrev pub lapsed : {V L : Type 0} → (Card V L → Bool) → Option (Card V L) → Option (Card V L)
 lapsed struck None = None
 lapsed struck (Some card) = Some (marked card (next card.mark (event_of (struck card))))
 
+-- whether the card there went from standing to doubtful by it
 abbrev pub fell : {V L : Type 0} → (Card V L → Bool) → Option (Card V L) → Bool
 fell struck None = false
 fell struck (Some card) = is_standing card.mark && not (is_standing (next card.mark (event_of (struck card))))

@@ -26,22 +26,26 @@ pub record Memory (V L : Type 0) : Type 0 where
   pub network : Network V
   pub book : Book V L
 
+-- the memory of these two
 abbrev pub memory : {V L : Type 0} → Network V → Book V L → Memory V L
 memory n b = record { network = n; book = b }
 
--- What each call's own answer is as a reply.
+-- What each call's own answer is as a reply: an offer, a change and a withdrawal answer their count.
 abbrev pub counted : {V : Type 0} → Result ℕ Refusal → Reply V
 counted (Ok count) = Counted count
 counted (Err why) = Refused why
 
+-- a quote and a recheck that were carried out answer a standing card
 abbrev pub answered : {V : Type 0} → Result (Option (Route V)) Refusal → Reply V
 answered (Ok answer) = Held Standing answer
 answered (Err why) = Refused why
 
+-- a discard that was carried out answers 0
 abbrev pub emptied : {V : Type 0} → Result (Unit {0}) Refusal → Reply V
 emptied (Ok done) = Counted 0
 emptied (Err why) = Refused why
 
+-- a reading answers mark and answer
 abbrev pub showing : {V : Type 0} → Result (Mark × Option (Route V)) Refusal → Reply V
 showing (Ok held) = Held held.0 held.1
 showing (Err why) = Refused why
@@ -51,6 +55,7 @@ pub record Lent (V : Type 0) : Type 0 where
   pub labels : List (Label V)
   pub reply : List ℕ
 
+-- these labels and these numbers, lent to one call
 abbrev pub lent : {V : Type 0} → List (Label V) → List ℕ → Lent V
 lent labels reply = record { labels = labels; reply = reply }
 
@@ -78,6 +83,7 @@ pub record Event (V L : Type 0) : Type 0 where
   pub call : Call V L
   pub reply : Reply V
 
+-- this call, with this answer
 abbrev pub event : {V L : Type 0} → Call V L → Reply V → Event V L
 event call reply = record { call = call; reply = reply }
 
@@ -87,11 +93,12 @@ unless_refused (Refused why) done stays = stays
 unless_refused (Counted count) done stays = done
 unless_refused (Held mark answer) done stays = done
 
--- what a call that is not refused makes of the links
+-- what stands at a link place once its link was given this value
 abbrev pub revalue : {V : Type 0} → V → Option (Link V) → Option (Link V)
 revalue value None = None
 revalue value (Some old) = Some (revalued old value)
 
+-- what a call that is not refused makes of the links
 abbrev pub relinked : {V L : Type 0} → Call V L → List (Option (Link V)) → List (Option (Link V))
 relinked (Offer place link) links = slice_set links place (Some link)
 relinked (Change place value) links = slice_set links place (revalue value (at links place))
@@ -116,6 +123,7 @@ reasked c (Recheck card k) was = was
 reasked c (Discard card) was = cond (c == card) None was
 reasked c (Read card start) was = was
 
+-- what the card at the place c was asked, after a history
 abbrev pub asked : {V L : Type 0} → ℕ → List (Event V L) → Option (Ask L)
 asked c [] = None
 asked c (e ∷ before) = unless_refused e.reply (reasked c e.call (asked c before)) (asked c before)
@@ -125,10 +133,12 @@ pub record Sought (L : Type 0) : Type 0 where
   pub ask : Ask L
   pub k : ℕ
 
+-- this is looked for with k labels a site
 abbrev pub sought_by : {L : Type 0} → ℕ → Option (Ask L) → Option (Sought L)
 sought_by k None = None
 sought_by k (Some ask) = Some (record { ask = ask; k = k })
 
+-- what the call looks for after a history, if it looks for anything
 abbrev pub sought : {V L : Type 0} → List (Event V L) → Call V L → Option (Sought L)
 sought before (Offer place link) = None
 sought before (Change place value) = None

@@ -18,9 +18,11 @@ store_causes K sites links place link =
     (nat_le (length links) place, NoSuchLink) ∷ (nat_le sites link.start || nat_le sites link.end, NoSuchSite) ∷ ((link.start == link.end), EndsMeet)
     ∷ (not (K.admitted link.value), ValueNotAdmitted) ∷ (is_some (at links place), LinkTaken) ∷ []
 
+-- the answer to storing a link
 abbrev pub store_answer : {V L : Type 0} → Kind V L → ℕ → List (Option (Link V)) → ℕ → Link V → Result (Unit {0}) Refusal
 store_answer K sites links place link = unless (topmost (store_causes K sites links place link)) (Ok tt)
 
+-- the links after it
 abbrev pub stored : {V L : Type 0} → Kind V L → ℕ → List (Option (Link V)) → ℕ → Link V → List (Option (Link V))
 stored K sites links place link = elim (store_answer K sites links place link) [ Ok _ ↦ slice_set links place (Some link) | Err _ ↦ links ]
 
@@ -28,13 +30,16 @@ stored K sites links place link = elim (store_answer K sites links place link) [
 abbrev pub revalued : {V : Type 0} → Link V → V → Link V
 revalued link value = record { start = link.start; end = link.end; value = value }
 
+-- why replacing a value is refused
 abbrev pub replace_causes : {V L : Type 0} → Kind V L → List (Option (Link V)) → ℕ → V → List (Bool × Refusal)
 replace_causes K links place value =
     (nat_le (length links) place, NoSuchLink) ∷ (not (K.admitted value), ValueNotAdmitted) ∷ (not (is_some (at links place)), LinkEmpty) ∷ []
 
+-- the answer to replacing it: the link as it was
 abbrev pub replace_answer : {V L : Type 0} → Kind V L → List (Option (Link V)) → ℕ → V → Result (Link V) Refusal
 replace_answer K links place value = unless (topmost (replace_causes K links place value)) (filled_or LinkEmpty (at links place))
 
+-- the links after it
 abbrev pub replaced : {V L : Type 0} → Kind V L → List (Option (Link V)) → ℕ → V → List (Option (Link V))
 replaced K links place value = elim (replace_answer K links place value) [ Ok old ↦ slice_set links place (Some (revalued old value)) | Err _ ↦ links ]
 
@@ -42,8 +47,10 @@ replaced K links place value = elim (replace_answer K links place value) [ Ok ol
 abbrev pub remove_causes : {V : Type 0} → List (Option (Link V)) → ℕ → List (Bool × Refusal)
 remove_causes links place = (nat_le (length links) place, NoSuchLink) ∷ (not (is_some (at links place)), LinkEmpty) ∷ []
 
+-- the answer to removing a link: the link that stood there
 abbrev pub remove_answer : {V : Type 0} → List (Option (Link V)) → ℕ → Result (Link V) Refusal
 remove_answer links place = unless (topmost (remove_causes links place)) (filled_or LinkEmpty (at links place))
 
+-- the links after it
 abbrev pub removed : {V : Type 0} → List (Option (Link V)) → ℕ → List (Option (Link V))
 removed links place = elim (remove_answer links place) [ Ok _ ↦ slice_set links place None | Err _ ↦ links ]

@@ -8,6 +8,7 @@ use Rattle.cards.specs.Doubts.{Rule, struck_by_offer, struck_by_change, struck_b
 use Rattle.doubt.specs.declared.News.{News}
 use Rattle.doubt.specs.declared.News.TheVariants.{Offered, Changed, Withdrawn}
 
+-- the rule that goes with the news
 abbrev pub rule_of : {V L : Type 0} → Kind V L → News V → Rule V L
 rule_of K (Offered value) = struck_by_offer K value
 rule_of K (Changed place old new) = struck_by_change K place old new
@@ -18,6 +19,7 @@ abbrev pub struck_in : {V L : Type 0} → Rule V L → Book V L → ℕ → Opti
 struck_in rule b c None = false
 struck_in rule b c (Some card) = strikes rule b c card
 
+-- whether the rule strikes the card at the place c
 abbrev pub struck_at : {V L : Type 0} → Rule V L → Book V L → ℕ → Bool
 struck_at rule b c = struck_in rule b c (at b.cards c)
 

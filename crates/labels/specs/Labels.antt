@@ -10,16 +10,19 @@ use Rattle.labels.specs.declared.State.{State}
 use Rattle.labels.specs.declared.State.TheVariants.{Free, Queued, Settled}
 use Rattle.labels.specs.declared.Label.{Label}
 
+-- a label that is queued or settled
 abbrev pub is_held : State → Bool
 is_held Free = false
 is_held Queued = true
 is_held Settled = true
 
+-- a label that waits to be settled
 abbrev pub is_queued : State → Bool
 is_queued Free = false
 is_queued Queued = true
 is_queued Settled = false
 
+-- a label that was settled, for good
 abbrev pub is_settled : State → Bool
 is_settled Free = false
 is_settled Queued = false
@@ -29,6 +32,7 @@ is_settled Settled = true
 abbrev pub In : ℕ → ℕ → ℕ → Type 0
 In k s p = (s * k ≤ p) × (p < s * k + k)
 
+-- a label at a free place, as a workspace begins with
 abbrev pub blank : {V L : Type 0} → Kind V L → Label V
 blank K = record { state = Free; value = K.empty; previous = 0; link = 0 }
 
@@ -37,12 +41,15 @@ abbrev pub table : {V L : Type 0} → Kind V L → List (Label V) → ℕ → La
 table K xs p = slice_index_or xs p (blank K)
 
 module _ {V : Type 0} (A : ℕ → Label V) where
+  -- the label at p is held
   abbrev pub Held : ℕ → Type 0
   Held p = is_held (A p).state ≡ true
 
+  -- the label at p is queued
   abbrev pub Waits : ℕ → Type 0
   Waits p = is_queued (A p).state ≡ true
 
+  -- the label at p is settled
   abbrev pub Done : ℕ → Type 0
   Done p = is_settled (A p).state ≡ true
 
@@ -77,6 +84,7 @@ module _ {V L : Type 0} (K : Kind V L) (l : L) (Lead : ℕ → ℕ → ℕ → V
   abbrev pub Has : (ℕ → Label V) → ℕ → V → Type 0
   Has A t w = (p : ℕ) × In k t p × Held A p × (K.dominates (A p).value w ≡ true)
 
+  -- what is kept of the labels from turn to turn
   pub record Kept (A : ℕ → Label V) : Type 0 where
     pub fit : (p : ℕ) → Held A p → Fit K l (A p).value
     pub ordered : (p q : ℕ) → Done A p → Waits A q → ranks K l (A q).value (A p).value ≡ false
@@ -89,6 +97,7 @@ module _ {V L : Type 0} (K : Kind V L) (l : L) (Lead : ℕ → ℕ → ℕ → V
   abbrev pub Spread : (ℕ → Label V) → ℕ → ℕ → Type 0
   Spread A h i = (p s j t : ℕ) (c : V) → Done A p → In k s p → Lead j s t c → (p ≡ h → j < i) → K.within (extend K (A p).value c) l ≡ true → Has A t (extend K (A p).value c)
 
+  -- the same for every settled label and every link
   abbrev pub SpreadAll : (ℕ → Label V) → Type 0
   SpreadAll A = (p s j t : ℕ) (c : V) → Done A p → In k s p → Lead j s t c → K.within (extend K (A p).value c) l ≡ true → Has A t (extend K (A p).value c)
 
@@ -133,9 +142,11 @@ covers K v x = is_held x.state && K.dominates x.value v
 abbrev pub yields : {V L : Type 0} → Kind V L → V → Label V → Bool
 yields K n x = is_queued x.state && K.dominates n x.value
 
+-- the label with its place given up
 abbrev pub freed : {V : Type 0} → Label V → Label V
 freed x = record { state = Free; value = x.value; previous = x.previous; link = x.link }
 
+-- the label after a newcomer of the value n has come to its site
 abbrev pub cleared : {V L : Type 0} → Kind V L → V → Label V → Label V
 cleared K n x = cond (yields K n x) (freed x) x
 

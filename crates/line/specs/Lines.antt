@@ -8,6 +8,7 @@ use Rattle.report.specs.Refusals.{number as refusal-number, returned}
 use Rattle.line.specs.declared.Reply.{Reply}
 use Rattle.line.specs.declared.Reply.TheVariants.{Counted, Route, NoRoute, Refused}
 
+-- the word for a mark
 abbrev pub mark_word : Mark → List ℕ
 mark_word Standing = codes "standing"
 mark_word Doubtful = codes "doubtful"
@@ -26,6 +27,7 @@ words (Route mark ratio value) legs =
 words (NoRoute mark) legs = codes "none" ∷ mark_word mark ∷ []
 words (Refused why) legs = codes "refused" ∷ decimal (refusal-number why) ∷ map decimal (returned why)
 
+-- a word after one space
 abbrev pub after_space : List ℕ → List ℕ
 after_space word = codes " " ++ word
 

@@ -8,15 +8,19 @@ use Rattle.measure.specs.Scalars.{over, sum, worst, sum_kind, worst_kind}
 use Rattle.measure.specs.Pairs.{pair, pair_kind}
 use Rattle.measure.specs.Ranks.{ranks}
 
+-- pairs of sums
 abbrev pub two_sums : Kind (Pair Sum Sum) (Pair ℕ ℕ)
 two_sums = pair_kind sum_kind sum_kind
 
+-- the pair of the sums a and b
 abbrev pub sums : ℕ → ℕ → Pair Sum Sum
 sums a b = pair (sum a) (sum b)
 
+-- the limits (10, 10)
 abbrev pub tens : Pair ℕ ℕ
 tens = pair 10 10
 
+-- what holds of the examples
 pub record WorkedExamples : Type 0 where
   -- the ratio is the greater part's
   pub ratio_of_7_4 : two_sums.ratio (sums 7 4) tens ≡ ratio_of 7 10

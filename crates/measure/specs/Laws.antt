@@ -10,6 +10,7 @@ pub record Proper (r : Ratio) : Type 0 where
   pub small : r.bottom ≤ 2147483647
   pub most : r.top ≤ r.bottom
 
+-- the seven laws of a kind
 pub record Laws {V L : Type 0} (k : Kind V L) : Type 0 where
   -- dominance is reflexive and transitive, and two values that dominate each other are the same
   pub dom_refl : (a : V) → Made k a → k.dominates a a ≡ true

@@ -4,6 +4,7 @@ use Rattle.measure.specs.declared.pair.Pair.{Pair}
 use Rattle.measure.specs.Kind.{Kind}
 use Rattle.measure.specs.Ratios.{greater}
 
+-- two values, or two limits, side by side
 abbrev pub pair : {V W : Type 0} → V → W → Pair V W
 pair a b = record { first = a; second = b }
 

@@ -11,9 +11,11 @@ use Rattle.measure.specs.Pairs.{pair, pair_kind}
 abbrev pub trunk_kind : Kind (Pair (Pair Sum Sum) Worst) (Pair (Pair ℕ ℕ) ℕ)
 trunk_kind = pair_kind (pair_kind sum_kind sum_kind) worst_kind
 
+-- the value of these three numbers
 abbrev pub trunk : ℕ → ℕ → ℕ → Pair (Pair Sum Sum) Worst
 trunk delay price class = pair (pair (sum delay) (sum price)) (worst class)
 
+-- the limit of these three numbers
 abbrev pub trunk_limit : ℕ → ℕ → ℕ → Pair (Pair ℕ ℕ) ℕ
 trunk_limit delay price class = pair (pair delay price) class
 

@@ -30,6 +30,7 @@ scalar_kind number value joined = record {
 abbrev pub sum : ℕ → Sum
 sum n = record { number = min n over }
 
+-- the same for the worst-of kind
 abbrev pub worst : ℕ → Worst
 worst n = record { number = min n over }
 

@@ -20,13 +20,15 @@ body_length kind =
     (cond (kind == 7) (Some 2)
     None))))))
 
--- the number of 16 bits at place i, and that of 32 bits
+-- the number of 16 bits at place i
 abbrev pub number16 : List ℕ → ℕ → ℕ
 number16 bytes i = slice_index bytes i * 256 + slice_index bytes (i + 1)
 
+-- the number of 32 bits at place i
 abbrev pub number32 : List ℕ → ℕ → ℕ
 number32 bytes i = slice_index bytes i * 16777216 + slice_index bytes (i + 1) * 65536 + slice_index bytes (i + 2) * 256 + slice_index bytes (i + 3)
 
+-- the three measures from place i on
 abbrev pub measures_at : List ℕ → ℕ → Measures
 measures_at bytes i = record { delay = number32 bytes i; price = number32 bytes (i + 4); class = number32 bytes (i + 8) }
 

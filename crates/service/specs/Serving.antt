@@ -17,22 +17,27 @@ use Rattle.cards.specs.Runs.{Memory, Lent, Outcome}
 use Rattle.line.specs.declared.Reply.{Reply as Printed}
 use Rattle.line.specs.declared.Reply.TheVariants as line-variants
 
+-- delay, price and class
 abbrev pub TrunkValue : Type 0
 TrunkValue = Pair (Pair Sum Sum) Worst
 
+-- a limit for each of them
 abbrev pub TrunkLimits : Type 0
 TrunkLimits = Pair (Pair ℕ ℕ) ℕ
 
--- a record's measures as a value, and its limits as a limit
+-- a record's measures as a value
 abbrev pub value_of : Measures → TrunkValue
 value_of m = trunk m.delay m.price m.class
 
+-- a record's limits as a limit
 abbrev pub limit_of : Measures → TrunkLimits
 limit_of m = trunk_limit m.delay m.price m.class
 
+-- the link of an offer
 abbrev pub link_of : ℕ → ℕ → Measures → Link TrunkValue
 link_of start end m = record { start = start; end = end; value = value_of m }
 
+-- what a quote asks
 abbrev pub ask_of : ℕ → ℕ → Measures → Ask TrunkLimits
 ask_of source destination limits = record { source = source; destination = destination; limit = limit_of limits }
 
@@ -52,6 +57,7 @@ held_card (Counted count) card = None
 held_card (Held mark answer) card = Some card
 held_card (Refused why) card = None
 
+-- the card that is read after the call of a record, if one is
 abbrev pub card_read : Record → Reply TrunkValue → Option ℕ
 card_read (record-variants.Offer link start end m) reply = None
 card_read (record-variants.Change link m) reply = None
@@ -66,6 +72,7 @@ abbrev pub ReadThen : Memory TrunkValue TrunkLimits → Lent TrunkValue → Repl
 ReadThen m l first None reply m' l' = (reply ≡ first) × (m' ≡ m) × (l' ≡ l)
 ReadThen m l first (Some card) reply m' l' = Outcome trunk_kind m l (Read card 0) reply m' l'
 
+-- a record is served: its call, and the reading after it, lead from one memory to the other
 pub record Served (m : Memory TrunkValue TrunkLimits) (l : Lent TrunkValue) (r : Record) (k : ℕ) (reply : Reply TrunkValue) (m' : Memory TrunkValue TrunkLimits) (l' : Lent TrunkValue) : Type 0 where
   pub first : Reply TrunkValue
   pub between : Memory TrunkValue TrunkLimits
