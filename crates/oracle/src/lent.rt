@@ -1,0 +1,89 @@
+//! What is lent for a call, the workspace and the reply, and how it should come back.
+use crate::kind::Kind;
+use crate::model::{Forecast, LEGS};
+use crate::request::Request;
+use labels::{Label, State};
+
+// What stands in a reply before it is lent: no link's place.
+pub const BLANK: u16 = 9999;
+
+// What a label's numbers are before it is lent.
+const MARKED: usize = 77;
+
+// How many labels, and how many numbers of the reply, are lent for the request.
+pub fn room_for(request: Request) -> (usize, usize) {
+    match request {
+        Request::Quote {
+            card: _,
+            ask: _,
+            k: _,
+            room,
+        }
+        | Request::Recheck {
+            card: _,
+            k: _,
+            room,
+        } => (room, LEGS),
+        Request::Read {
+            card: _,
+            start: _,
+            room,
+        } => (0, room),
+        _ => (0, LEGS),
+    }
+}
+
+// Leaves labels as nothing leaves them, so that any use is seen.
+pub fn mark_labels<M: Kind>(labels: &mut [Label<M>]) {
+    for label in labels.iter_mut() {
+        *label = Label {
+            state: State::Settled,
+            value: M::empty(),
+            previous: MARKED,
+            link: MARKED,
+        };
+    }
+}
+
+// Whether the label is free, or else as it was marked.
+fn is_as_left<M: Kind>(label: &Label<M>, is_used: bool) -> bool {
+    match label.state {
+        State::Free => is_used,
+        State::Queued => false,
+        State::Settled => !is_used && label.previous == MARKED && label.link == MARKED,
+    }
+}
+
+// Whether routing left every label free, and every other call left them as they were.
+pub fn are_as_left<M: Kind>(labels: &[Label<M>], forecast: Forecast) -> bool {
+    let is_used = matches!(
+        forecast,
+        Forecast::Sought {
+            card: _,
+            ask: _,
+            k: _,
+        }
+    );
+    for label in labels {
+        if !is_as_left(label, is_used) {
+            return false;
+        }
+    }
+    true
+}
+
+// Whether the numbers are these legs from the start place on, and blank elsewhere.
+pub fn are_legs(numbers: &[u16], start: usize, legs: &[u16]) -> bool {
+    for (i, number) in numbers.iter().enumerate() {
+        let wanted = if i < start {
+            BLANK
+        } else {
+            legs.get(i - start).copied().unwrap_or(BLANK)
+        };
+        if *number != wanted {
+            return false;
+        }
+    }
+    true
+}
+

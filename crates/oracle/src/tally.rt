@@ -1,0 +1,83 @@
+//! What was tried and compared, in numbers.
+use crate::calls::PlainReply;
+use std::fmt;
+
+// One more than the greatest number of a refusal.
+const REFUSALS: usize = 20;
+
+#[derive(Clone, Copy)]
+pub struct Tally {
+    pub catalogues: u64,
+    pub calls: u64,
+    // Standing cards that were compared, each after each call.
+    pub standing: u64,
+    // Routes and nones that were found, and sites whose labels were full.
+    pub routes: u64,
+    pub nones: u64,
+    pub full: u64,
+    pub records: u64,
+    refusals: [u64; REFUSALS],
+}
+
+// Counts one more.
+pub fn count(counter: &mut u64) {
+    *counter = counter.saturating_add(1);
+}
+
+impl Tally {
+    pub fn new() -> Tally {
+        Tally {
+            catalogues: 0,
+            calls: 0,
+            standing: 0,
+            routes: 0,
+            nones: 0,
+            full: 0,
+            records: 0,
+            refusals: [0; REFUSALS],
+        }
+    }
+
+    pub fn note_refusal(&mut self, number: u8) {
+        if let Some(counter) = self.refusals.get_mut(number as usize) {
+            count(counter);
+        }
+    }
+
+    pub fn note_reply(&mut self, reply: PlainReply) {
+        count(&mut self.calls);
+        if let PlainReply::Refused {
+            number,
+            returned: _,
+        } = reply
+        {
+            self.note_refusal(number);
+        }
+    }
+
+    // The first number of a refusal that never came.
+    pub fn unreached(&self) -> Option<usize> {
+        for (number, counter) in self.refusals.iter().enumerate() {
+            if number > 0 && *counter == 0 {
+                return Some(number);
+            }
+        }
+        None
+    }
+}
+
+impl fmt::Display for Tally {
+    fn fmt<W: fmt::Write>(&self, f: &mut fmt::Formatter<W>) -> fmt::Result {
+        let catalogues = self.catalogues;
+        let calls = self.calls;
+        let standing = self.standing;
+        let routes = self.routes;
+        let nones = self.nones;
+        let full = self.full;
+        let records = self.records;
+        write!(
+            f,
+            "catalogues {catalogues}, calls {calls}, standing cards compared {standing}, routes {routes}, none {nones}, full {full}, records {records}"
+        )
+    }
+}
