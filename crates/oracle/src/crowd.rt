@@ -8,13 +8,12 @@ const VALUES: usize = 128;
 // Notes the value, unless it is there already.
 fn note(values: &mut [Option<Figures>], value: Figures) {
     for place in values.iter_mut() {
-        match *place {
-            None => {
-                *place = Some(value);
-                return;
-            }
-            Some(held) if held == value => return,
-            Some(_) => {}
+        let Some(held) = *place else {
+            *place = Some(value);
+            return;
+        };
+        if held == value {
+            return;
         }
     }
 }

@@ -1,5 +1,5 @@
 //! Values, limits and ratios as plain numbers, with an arithmetic of their own: nothing of the library's is used here.
-ghost use Rattle.std.specs.Prelude.{◌≡◌, ◌<◌, ◌≤◌, ◌↔◌, ◌⊎◌, ◌*◌, IsTrue};
+ghost use Rattle.std.specs.Prelude.{◌≡◌, ◌+◌, ◌<◌, ◌≤◌, ◌↔◌, ◌⊎◌, IsTrue};
 
 // The number that stands for every number from it on; no link may have it, and no limit allows it.
 pub const OVER: u64 = 2147483648;
@@ -28,7 +28,8 @@ pub const NO_LEGS: Figures = Figures {
 
 // The sum of two numbers, or over.
 fn summed(a: u64, b: u64) -> u64
-    ensures { result ≤ OVER }
+    ensures sum { a + b ≤ OVER → result ≡ a + b }
+    ensures over { OVER ≤ a + b → result ≡ OVER }
 {
     a.saturating_add(b).min(OVER)
 }
@@ -68,7 +69,9 @@ pub fn is_no_worse(first: Figures, second: Figures) -> bool
 }
 
 // Whether the first value comes before the second: by delay, then by price, then by class.
-pub fn comes_first(first: Figures, second: Figures) -> bool {
+pub fn comes_first(first: Figures, second: Figures) -> bool
+    ensures { IsTrue result ↔ ((first.delay < second.delay) ⊎ ((first.delay ≡ second.delay) × ((first.price < second.price) ⊎ ((first.price ≡ second.price) × (first.class < second.class))))) }
+{
     if first.delay != second.delay {
         return first.delay < second.delay;
     }

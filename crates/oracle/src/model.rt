@@ -96,6 +96,12 @@ impl Model {
         self.cards.get(card).copied().flatten()
     }
 
+    // Whether most link places are empty.
+    pub fn is_sparse(&self) -> bool {
+        let links = self.links.iter().filter(|place| place.is_some()).count();
+        links <= self.places / 2
+    }
+
     fn put_link(&mut self, place: usize, link: Option<PlainLink>) {
         if let Some(held) = self.links.get_mut(place) {
             *held = link;

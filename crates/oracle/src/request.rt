@@ -83,7 +83,7 @@ fn limit_number(random: &mut Random, style: Style) -> u64 {
         2 => u32::MAX as u64,
         3..=6 => OVER - 1,
         _ => {
-            let small = random.below(14) as u64;
+            let small = random.below(14).max(random.below(14)) as u64;
             style.scale.saturating_mul(small.max(1)).min(OVER - 1)
         }
     }
@@ -130,7 +130,29 @@ fn place(random: &mut Random, end: usize) -> usize {
     }
 }
 
-// A site that a link may go to from the start: seldom the start itself.
+// A link place: of two that are drawn the second, where the first is not as wanted, filled or empty.
+fn link_place(random: &mut Random, model: &Model, is_filled: bool) -> usize {
+    let first = place(random, model.places);
+    let second = place(random, model.places);
+    if model.link(first).is_some() == is_filled {
+        first
+    } else {
+        second
+    }
+}
+
+// A card place: of two that are drawn the second, where the first is not as wanted, which is empty or doubtful.
+fn card_place(random: &mut Random, model: &Model, is_filled: bool) -> usize {
+    let first = place(random, model.card_places);
+    let second = place(random, model.card_places);
+    let is_wanted = match model.card(first) {
+        None => !is_filled,
+        Some(card) => is_filled && !card.is_standing,
+    };
+    if is_wanted { first } else { second }
+}
+
+// A site to go to from the start: seldom the start itself.
 fn end_from(random: &mut Random, sites: usize, start: u16) -> u16 {
     let end = site(random, sites);
     if end != start || random.one_in(8) {
@@ -166,9 +188,10 @@ fn other_value(random: &mut Random, model: &Model, place: usize, style: Style) -
 }
 
 fn ask(random: &mut Random, sites: usize, style: Style) -> PlainAsk {
+    let source = site(random, sites);
     PlainAsk {
-        source: site(random, sites),
-        destination: site(random, sites),
+        source,
+        destination: end_from(random, sites, source),
         limit: limit(random, style),
     }
 }
@@ -179,7 +202,9 @@ fn labels_each(random: &mut Random) -> usize {
         0 => 0,
         1 => 64,
         2 => 65,
-        _ => random.below(3).saturating_add(1),
+        3..=60 => 1,
+        61..=95 => 2,
+        _ => 3,
     }
 }
 
@@ -195,7 +220,7 @@ fn label_room(random: &mut Random, sites: usize, k: usize) -> usize {
 fn quote(random: &mut Random, model: &Model, style: Style) -> Request {
     let k = labels_each(random);
     Request::Quote {
-        card: place(random, model.card_places),
+        card: card_place(random, model, false),
         ask: ask(random, model.sites, style),
         k,
         room: label_room(random, model.sites, k),
@@ -205,7 +230,7 @@ fn quote(random: &mut Random, model: &Model, style: Style) -> Request {
 fn recheck(random: &mut Random, model: &Model) -> Request {
     let k = labels_each(random);
     Request::Recheck {
-        card: place(random, model.card_places),
+        card: card_place(random, model, true),
         k,
         room: label_room(random, model.sites, k),
     }
@@ -221,27 +246,34 @@ fn read(random: &mut Random, model: &Model) -> Request {
 }
 
 fn change(random: &mut Random, model: &Model, style: Style) -> Request {
-    let place = place(random, model.places);
+    let place = link_place(random, model, true);
     Request::Change {
         place,
         value: other_value(random, model, place, style),
     }
 }
 
-// The next call.
+fn offer(random: &mut Random, model: &Model, style: Style) -> Request {
+    Request::Offer {
+        place: link_place(random, model, false),
+        link: link(random, model.sites, style),
+    }
+}
+
+// The next call: an offer more often while there are few links.
 pub fn draw(random: &mut Random, model: &Model, style: Style) -> Request {
+    if model.is_sparse() && random.one_in(2) {
+        return offer(random, model, style);
+    }
     match random.below(100) {
-        0..=29 => Request::Offer {
-            place: place(random, model.places),
-            link: link(random, model.sites, style),
+        0..=19 => offer(random, model, style),
+        20..=34 => change(random, model, style),
+        35..=41 => Request::Withdraw {
+            place: link_place(random, model, true),
         },
-        30..=44 => change(random, model, style),
-        45..=53 => Request::Withdraw {
-            place: place(random, model.places),
-        },
-        54..=73 => quote(random, model, style),
-        74..=89 => recheck(random, model),
-        90..=94 => Request::Discard {
+        42..=66 => quote(random, model, style),
+        67..=81 => recheck(random, model),
+        82..=95 => Request::Discard {
             card: place(random, model.card_places),
         },
         _ => read(random, model),

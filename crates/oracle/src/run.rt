@@ -13,7 +13,7 @@ use labels::Label;
 use quotes::QuoteBook;
 
 // How many calls are made on a catalogue.
-const CALLS: usize = 40;
+const CALLS: usize = 60;
 
 // The most sites that are tried.
 const SITES: usize = 5;
@@ -65,7 +65,7 @@ pub fn try_catalogue<M: Kind>(
     tally: &mut Tally,
 ) -> Result<(), Difference> {
     let sites = random.below(4) + 2;
-    let places = (random.below(10) + 1).min(links.len());
+    let places = (random.below(4) + random.below(7) + 1).min(links.len());
     let card_places = (random.below(3) + 1).min(cards.len());
     let scale = scale(random);
     let style = Style {

@@ -1,4 +1,6 @@
 //! Which sizes can be opened.
+ghost use Rattle.std.specs.Prelude.{◌≤◌, ◌↔◌, IsTrue};
+
 use crate::difference::Difference;
 use crate::random::Random;
 use crate::tally::Tally;
@@ -28,7 +30,9 @@ fn row_numbers(random: &mut Random, sites: usize, cards: usize) -> usize {
     }
 }
 
-fn is_from_1_to(size: usize, most: usize) -> bool {
+fn is_from_1_to(size: usize, most: usize) -> bool
+    ensures { IsTrue result ↔ ((1 ≤ size) × (size ≤ most)) }
+{
     size != 0 && size <= most
 }
 

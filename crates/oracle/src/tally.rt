@@ -15,6 +15,8 @@ pub struct Tally {
     pub routes: u64,
     pub nones: u64,
     pub full: u64,
+    // Cards that fell into doubt.
+    pub doubted: u64,
     pub records: u64,
     refusals: [u64; REFUSALS],
 }
@@ -33,6 +35,7 @@ impl Tally {
             routes: 0,
             nones: 0,
             full: 0,
+            doubted: 0,
             records: 0,
             refusals: [0; REFUSALS],
         }
@@ -46,12 +49,16 @@ impl Tally {
 
     pub fn note_reply(&mut self, reply: PlainReply) {
         count(&mut self.calls);
-        if let PlainReply::Refused {
-            number,
-            returned: _,
-        } = reply
-        {
-            self.note_refusal(number);
+        match reply {
+            PlainReply::Counted(cards) => self.doubted = self.doubted.saturating_add(cards as u64),
+            PlainReply::Refused {
+                number,
+                returned: _,
+            } => self.note_refusal(number),
+            PlainReply::Held {
+                is_standing: _,
+                answer: _,
+            } => {}
         }
     }
 
@@ -74,10 +81,11 @@ impl fmt::Display for Tally {
         let routes = self.routes;
         let nones = self.nones;
         let full = self.full;
+        let doubted = self.doubted;
         let records = self.records;
         write!(
             f,
-            "catalogues {catalogues}, calls {calls}, standing cards compared {standing}, routes {routes}, none {nones}, full {full}, records {records}"
+            "catalogues {catalogues}, calls {calls}, standing cards compared {standing}, routes {routes}, none {nones}, full {full}, doubted {doubted}, records {records}"
         )
     }
 }
