@@ -84,10 +84,7 @@ fn foreseen(bytes: &[u8], place: usize) -> (Reading, usize) {
     let present = part.len() - 1;
     if present < body {
         let missing = body - present;
-        return (
-            Reading::Refused(Refusal::CutShort { place, missing }),
-            0,
-        );
+        return (Reading::Refused(Refusal::CutShort { place, missing }), 0);
     }
     (Reading::Record(record_of(part, kind)), present - body)
 }

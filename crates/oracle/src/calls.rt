@@ -166,14 +166,7 @@ fn call_itself<M: Kind>(
             ask,
             k,
             room: _,
-        } => answered(quote(
-            &*catalogue,
-            book,
-            workspace,
-            card,
-            ask_of::<M>(ask),
-            k,
-        )),
+        } => answered(quote(&*catalogue, book, workspace, card, ask_of::<M>(ask), k)),
         Request::Recheck { card, k, room: _ } => {
             answered(recheck(&*catalogue, book, workspace, card, k))
         }

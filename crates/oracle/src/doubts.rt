@@ -21,7 +21,10 @@ pub enum News {
 // Whether one of the route's legs is the link at the place.
 fn uses_link(card: &PlainCard, place: usize) -> bool {
     let legs = card.answer.map_or(0, |route| route.legs);
-    card.legs.iter().take(legs).any(|leg| *leg as usize == place)
+    card.legs
+        .iter()
+        .take(legs)
+        .any(|leg| *leg as usize == place)
 }
 
 // Whether a walk with a new link of this value can be better than the answer.

@@ -86,4 +86,3 @@ pub fn are_legs(numbers: &[u16], start: usize, legs: &[u16]) -> bool {
     }
     true
 }
-

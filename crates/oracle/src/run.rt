@@ -2,7 +2,7 @@
 use crate::audit::audit;
 use crate::difference::Difference;
 use crate::kind::Kind;
-use crate::model::Model;
+use crate::model::{CARDS, Model};
 use crate::random::Random;
 use crate::request::{Style, draw};
 use crate::tally::{Tally, count};
@@ -18,8 +18,14 @@ const CALLS: usize = 60;
 // The most sites that are tried.
 const SITES: usize = 5;
 
+// A number for each card place and site.
+const ROWS: usize = CARDS * SITES;
+
 // How many card places the quote book has that is for another number of sites.
 pub const OTHER_CARDS: usize = 2;
+
+// A number for each of these and each site, and one site more.
+const OTHER_ROWS: usize = OTHER_CARDS * (SITES + 1);
 
 // What the values of a catalogue are multiplied by: 1, or so much that sums come to the end of their range.
 fn scale(random: &mut Random) -> u64 {
@@ -72,15 +78,12 @@ pub fn try_catalogue<M: Kind>(
         scale,
         has_all: M::HAS_ALL,
     };
-    let mut rows = [0u16; 3 * SITES];
-    let mut other_rows = [0u16; OTHER_CARDS * SITES + 3];
-    let other_numbers = random.below(3) + OTHER_CARDS * sites;
+    let mut rows = [0u16; ROWS];
+    let numbers = (card_places * sites).min(ROWS);
+    let mut other_rows = [0u16; OTHER_ROWS];
+    let other_numbers = (random.below(3) + OTHER_CARDS * sites).min(OTHER_ROWS);
     let mut catalogue = Catalogue::open(&mut links[0..places], sites);
-    let mut book = QuoteBook::open(
-        &mut cards[0..card_places],
-        &mut rows[0..card_places * sites],
-        sites,
-    );
+    let mut book = QuoteBook::open(&mut cards[0..card_places], &mut rows[0..numbers], sites);
     let mut other = QuoteBook::open(other_cards, &mut other_rows[0..other_numbers], sites + 1);
     let mut model = Model::open(sites, places, card_places);
     for _ in 0..CALLS {

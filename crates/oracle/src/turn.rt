@@ -117,7 +117,11 @@ fn check_sought<M: Kind>(
 }
 
 // Compares what was answered where no routing was foreseen.
-fn check_reply(forecast: PlainReply, request: Request, reply: PlainReply) -> Result<(), Difference> {
+fn check_reply(
+    forecast: PlainReply,
+    request: Request,
+    reply: PlainReply,
+) -> Result<(), Difference> {
     if forecast == reply {
         Ok(())
     } else {
@@ -155,12 +159,7 @@ fn check_forecast<M: Kind>(
 }
 
 // Whether the reply's numbers are the legs of the card that was read, or blank after any other call.
-fn are_numbers_right(
-    model: &Model,
-    forecast: Forecast,
-    request: Request,
-    numbers: &[u16],
-) -> bool {
+fn are_numbers_right(model: &Model, forecast: Forecast, request: Request, numbers: &[u16]) -> bool {
     let Forecast::Held {
         is_standing: _,
         answer: _,
