@@ -33,7 +33,7 @@ use sizes::try_sizes;
 use tally::Tally;
 
 // How many catalogues of each kind are tried.
-const CATALOGUES: usize = 1500;
+const CATALOGUES: usize = 20000;
 
 // Labels for the most sites that are tried and for more walks at each than is allowed.
 const WORKSPACE: usize = 325;
