@@ -1,6 +1,6 @@
 //! Whether a site has more walks to it, none as good as another, than its labels can hold.
 use crate::figures::{Figures, NO_LEGS, is_no_worse, joined};
-use crate::model::{PlainAsk, PlainLink};
+use crate::model::{PlainLink, Sought};
 
 // How many different values are looked at; one more is left out, which can only make too few of them.
 const VALUES: usize = 128;
@@ -90,13 +90,8 @@ fn has_apart(values: &[Option<Figures>], wanted: usize) -> bool {
 
 // Whether there are more than k walks from the source that is asked for to the site within the limit, none dominating another. Other walks
 // may well dominate some of these.
-pub fn is_crowded(
-    links: &[Option<PlainLink>],
-    sites: usize,
-    ask: PlainAsk,
-    site: u16,
-    k: usize,
-) -> bool {
+pub fn is_crowded(links: &[Option<PlainLink>], sites: usize, sought: Sought, site: u16) -> bool {
+    let Sought { card: _, ask, k } = sought;
     let mut values = [None; VALUES];
     note_from(
         links,

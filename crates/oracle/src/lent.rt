@@ -56,14 +56,7 @@ fn is_as_left<M: Kind>(label: &Label<M>, is_used: bool) -> bool {
 
 // Whether routing left every label free, and every other call left them as they were.
 pub fn are_as_left<M: Kind>(labels: &[Label<M>], forecast: Forecast) -> bool {
-    let is_used = matches!(
-        forecast,
-        Forecast::Sought {
-            card: _,
-            ask: _,
-            k: _,
-        }
-    );
+    let is_used = matches!(forecast, Forecast::Sought(_));
     for label in labels {
         if !is_as_left(label, is_used) {
             return false;

@@ -33,7 +33,7 @@ use sizes::try_sizes;
 use tally::Tally;
 
 // How many catalogues of each kind are tried.
-const CATALOGUES: usize = 20000;
+const CATALOGUES: usize = 50_000;
 
 // Labels for the most sites that are tried and for more walks at each than is allowed.
 const WORKSPACE: usize = 325;
@@ -89,8 +89,8 @@ fn main(rt: HostRuntime) -> anyhow::Result<()> {
     let mut random = Random::from_seed(20260101);
     let mut tally = Tally::new();
     if let Err(difference) = try_all(&mut random, &mut tally) {
-        let catalogues = tally.catalogues;
-        return Err(anyhow!("after {catalogues} catalogues: {difference:?}"));
+        eprintln!(rt; "{tally}: {difference:?}")?;
+        return Err(anyhow!("the library and the model disagree"));
     }
     if let Some(number) = tally.unreached() {
         return Err(anyhow!("no call was refused with {number}"));

@@ -43,7 +43,15 @@ pub struct PlainCard {
     pub legs: [u16; LEGS],
 }
 
-// What a call should answer: a refusal by its number, how many cards fell into doubt, what a card holds, or what routing for a card finds.
+// What routing is to find: the best route for what is asked, with k labels a site, for the card.
+#[derive(Clone, Copy)]
+pub struct Sought {
+    pub card: usize,
+    pub ask: PlainAsk,
+    pub k: usize,
+}
+
+// What a call should answer: a refusal by its number, how many cards fell into doubt, what a card holds, or what routing finds.
 #[derive(Clone, Copy)]
 pub enum Forecast {
     Refused(u8),
@@ -52,11 +60,7 @@ pub enum Forecast {
         is_standing: bool,
         answer: Option<PlainRoute>,
     },
-    Sought {
-        card: usize,
-        ask: PlainAsk,
-        k: usize,
-    },
+    Sought(Sought),
 }
 
 #[derive(Drop)]
@@ -184,7 +188,7 @@ impl Model {
         if is_unfit(self.sites, room, k) {
             return Forecast::Refused(14);
         }
-        Forecast::Sought { card, ask, k }
+        Forecast::Sought(Sought { card, ask, k })
     }
 
     fn recheck(&self, card: usize, k: usize, room: usize) -> Forecast {
@@ -203,11 +207,11 @@ impl Model {
                 answer: held.answer,
             };
         }
-        Forecast::Sought {
+        Forecast::Sought(Sought {
             card,
             ask: held.ask,
             k,
-        }
+        })
     }
 
     fn discard(&mut self, card: usize) -> Forecast {

@@ -6,7 +6,7 @@ use crate::model::{CARDS, Model};
 use crate::random::Random;
 use crate::request::{Style, draw};
 use crate::tally::{Tally, count};
-use crate::turn::take_turn;
+use crate::turn::{Turn, take_turn};
 use cards::Card;
 use catalogue::{Catalogue, Link};
 use labels::Label;
@@ -50,12 +50,18 @@ fn try_call<M: Kind>(
     let request = draw(random, model, style);
     let by_its_own = random.one_in(2);
     if random.one_in(24) {
-        let forecast = model.foresee_elsewhere(request, OTHER_CARDS);
-        let turn = (forecast, request, by_its_own);
+        let turn = Turn {
+            request,
+            forecast: model.foresee_elsewhere(request, OTHER_CARDS),
+            by_its_own,
+        };
         take_turn(catalogue, other, labels, model, turn, tally)?;
     } else {
-        let forecast = model.foresee(request);
-        let turn = (forecast, request, by_its_own);
+        let turn = Turn {
+            request,
+            forecast: model.foresee(request),
+            by_its_own,
+        };
         take_turn(catalogue, book, labels, model, turn, tally)?;
     }
     audit(&*catalogue, &*book, &*model, request, tally)

@@ -5,7 +5,7 @@ use crate::difference::Difference;
 use crate::figures::share_of;
 use crate::kind::Kind;
 use crate::lent::{BLANK, are_as_left, are_legs, mark_labels, room_for};
-use crate::model::{Forecast, LEGS, Model, PlainAsk, PlainCard, PlainRoute};
+use crate::model::{Forecast, LEGS, Model, PlainAsk, PlainCard, PlainRoute, Sought};
 use crate::request::Request;
 use crate::tally::{Tally, count};
 use crate::walks::best_value;
@@ -13,6 +13,14 @@ use catalogue::Catalogue;
 use labels::Label;
 use quotes::QuoteBook;
 use report::Returned;
+
+// A request, what it should be answered, and whether it goes by its own call or by the one for all.
+#[derive(Clone, Copy)]
+pub struct Turn {
+    pub request: Request,
+    pub forecast: Forecast,
+    pub by_its_own: bool,
+}
 
 // The legs of the card's route.
 pub fn legs_of(card: &PlainCard) -> &[u16] {
@@ -43,10 +51,10 @@ fn read_legs<M: Kind>(book: &QuoteBook<'_, M, M::Limit>, card: usize) -> [u16; L
 fn check_found<M: Kind>(
     book: &QuoteBook<'_, M, M::Limit>,
     model: &mut Model,
-    card: usize,
-    ask: PlainAsk,
+    sought: Sought,
     answer: Option<PlainRoute>,
 ) -> bool {
+    let Sought { card, ask, k: _ } = sought;
     if !is_best(model, ask, answer) {
         return false;
     }
@@ -70,33 +78,32 @@ fn count_found(tally: &mut Tally, answer: Option<PlainRoute>) {
     }
 }
 
-// Whether there are as many walks to the site as the answer says.
-fn is_full(model: &Model, ask: PlainAsk, k: usize, returned: Returned) -> bool {
+// Whether there are so many walks to the site that is returned that its labels cannot hold them.
+fn is_full(model: &Model, sought: Sought, returned: Returned) -> bool {
     let Returned::One(site) = returned else {
         return false;
     };
     let Ok(site) = u16::try_from(site) else {
         return false;
     };
-    is_crowded(&model.links, model.sites, ask, site, k)
+    is_crowded(&model.links, model.sites, sought, site)
 }
 
 // Compares what was answered where routing was foreseen: a route, none, or that a site is full, which is left open.
 fn check_sought<M: Kind>(
     book: &QuoteBook<'_, M, M::Limit>,
     model: &mut Model,
-    forecast: (usize, PlainAsk, usize),
+    sought: Sought,
     request: Request,
     reply: PlainReply,
     tally: &mut Tally,
 ) -> Result<(), Difference> {
-    let (card, ask, k) = forecast;
     match reply {
         PlainReply::Refused {
             number: 16,
             returned,
         } => {
-            if !is_full(model, ask, k, returned) {
+            if !is_full(model, sought, returned) {
                 return Err(Difference::NotFull { request, reply });
             }
             count(&mut tally.full);
@@ -106,7 +113,7 @@ fn check_sought<M: Kind>(
             is_standing: true,
             answer,
         } => {
-            if !check_found(book, model, card, ask, answer) {
+            if !check_found(book, model, sought, answer) {
                 return Err(Difference::NotBest { request, reply });
             }
             count_found(tally, answer);
@@ -139,9 +146,7 @@ fn check_forecast<M: Kind>(
     tally: &mut Tally,
 ) -> Result<(), Difference> {
     match forecast {
-        Forecast::Sought { card, ask, k } => {
-            check_sought(book, model, (card, ask, k), request, reply, tally)
-        }
+        Forecast::Sought(sought) => check_sought(book, model, sought, request, reply, tally),
         Forecast::Refused(number) => check_reply(refusal(number), request, reply),
         Forecast::Counted(cards) => check_reply(PlainReply::Counted(cards), request, reply),
         Forecast::Held {
@@ -187,9 +192,14 @@ pub fn take_turn<M: Kind>(
     book: &mut QuoteBook<'_, M, M::Limit>,
     labels: &mut [Label<M>],
     model: &mut Model,
-    (forecast, request, by_its_own): (Forecast, Request, bool),
+    turn: Turn,
     tally: &mut Tally,
 ) -> Result<(), Difference> {
+    let Turn {
+        request,
+        forecast,
+        by_its_own,
+    } = turn;
     let (label_room, number_room) = room_for(request);
     let room = label_room.min(labels.len());
     let workspace = &mut labels[0..room];
