@@ -1,4 +1,6 @@
 //! The two measure kinds that are tried, and their values and limits as plain numbers.
+ghost use Rattle.std.specs.Prelude.{◌≡◌, ◌<◌, ◌^◌};
+
 use crate::figures::Figures;
 use measure::Measure;
 use measure::pair::{Trunk, trunk_limits, trunk_value};
@@ -17,7 +19,9 @@ pub trait Kind: Measure {
 }
 
 // The number in 32 bits: those that are tried fit.
-fn short(number: u64) -> u32 {
+fn short(number: u64) -> u32
+    ensures { number < 2 ^ 32 → result ≡ number }
+{
     u32::try_from(number).unwrap_or(u32::MAX)
 }
 

@@ -3,11 +3,11 @@
 #![tactic(auto)]
 
 mod audit;
-mod bytes;
 mod calls;
 mod crowd;
 mod difference;
 mod doubts;
+mod feeds;
 mod figures;
 mod kind;
 mod lent;
@@ -21,19 +21,14 @@ mod turn;
 mod walks;
 
 use anyhow::anyhow;
-use bytes::try_bytes;
 use difference::Difference;
 use measure::pair::Trunk;
 use measure::scalar::Sum;
 use model::{CARDS, PLACES};
 use random::Random;
 use routing::free_label;
-use run::{OTHER_CARDS, try_catalogue};
-use sizes::try_sizes;
+use run::{OTHER_CARDS, try_kind};
 use tally::Tally;
-
-// How many catalogues of each kind are tried.
-const CATALOGUES: usize = 50_000;
 
 // Labels for the most sites that are tried and for more walks at each than is allowed.
 const WORKSPACE: usize = 325;
@@ -44,19 +39,14 @@ fn try_trunk(random: &mut Random, tally: &mut Tally) -> Result<(), Difference> {
     let mut cards = [None; CARDS];
     let mut other_cards = [None; OTHER_CARDS];
     let mut labels = [free_label::<Trunk>(); WORKSPACE];
-    for _ in 0..CATALOGUES {
-        try_catalogue(
-            &mut links,
-            &mut cards,
-            &mut other_cards,
-            &mut labels,
-            random,
-            tally,
-        )?;
-        try_sizes(random, tally)?;
-        try_bytes(random, tally)?;
-    }
-    Ok(())
+    try_kind(
+        &mut links,
+        &mut cards,
+        &mut other_cards,
+        &mut labels,
+        random,
+        tally,
+    )
 }
 
 // Tries catalogues that are weighed by delay alone.
@@ -65,19 +55,14 @@ fn try_sums(random: &mut Random, tally: &mut Tally) -> Result<(), Difference> {
     let mut cards = [None; CARDS];
     let mut other_cards = [None; OTHER_CARDS];
     let mut labels = [free_label::<Sum>(); WORKSPACE];
-    for _ in 0..CATALOGUES {
-        try_catalogue(
-            &mut links,
-            &mut cards,
-            &mut other_cards,
-            &mut labels,
-            random,
-            tally,
-        )?;
-        try_sizes(random, tally)?;
-        try_bytes(random, tally)?;
-    }
-    Ok(())
+    try_kind(
+        &mut links,
+        &mut cards,
+        &mut other_cards,
+        &mut labels,
+        random,
+        tally,
+    )
 }
 
 fn try_all(random: &mut Random, tally: &mut Tally) -> Result<(), Difference> {

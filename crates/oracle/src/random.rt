@@ -1,5 +1,5 @@
 //! Numbers that look random and are the same in every run.
-ghost use Rattle.std.specs.Prelude.{◌<◌, ◌≤◌};
+ghost use Rattle.std.specs.Prelude.{◌<◌, ◌≤◌, ◌^◌};
 
 // A generator: each number comes from the one before it.
 #[derive(Drop)]
@@ -37,7 +37,9 @@ impl Random {
     }
 
     // A number that a link or a question has for a site: small, so that it fits.
-    pub fn site_below(&mut self, end: usize) -> u16 {
+    pub fn site_below(&mut self, end: usize) -> u16
+        ensures { 0 < end → end < 2 ^ 16 → result < end }
+    {
         u16::try_from(self.below(end)).unwrap_or(u16::MAX)
     }
 }

@@ -1,16 +1,21 @@
 //! A catalogue and its quote book, small and drawn at random, and a run of calls on them.
 use crate::audit::audit;
 use crate::difference::Difference;
+use crate::feeds::try_bytes;
 use crate::kind::Kind;
 use crate::model::{CARDS, Model};
 use crate::random::Random;
 use crate::request::{Style, draw};
+use crate::sizes::try_sizes;
 use crate::tally::{Tally, count};
 use crate::turn::{Turn, take_turn};
 use cards::Card;
 use catalogue::{Catalogue, Link};
 use labels::Label;
 use quotes::QuoteBook;
+
+// How many catalogues of each kind are tried.
+const CATALOGUES: usize = 50_000;
 
 // How many calls are made on a catalogue.
 const CALLS: usize = 60;
@@ -68,7 +73,7 @@ fn try_call<M: Kind>(
 }
 
 // Opens a catalogue and its quote book, and another quote book of another size, and makes a run of calls.
-pub fn try_catalogue<M: Kind>(
+fn try_catalogue<M: Kind>(
     links: &mut [Option<Link<M>>],
     cards: &mut [Option<Card<M, M::Limit>>],
     other_cards: &mut [Option<Card<M, M::Limit>>],
@@ -105,5 +110,22 @@ pub fn try_catalogue<M: Kind>(
         )?;
     }
     count(&mut tally.catalogues);
+    Ok(())
+}
+
+// Tries catalogues of one kind, one after the other in the same places, and beside each a size of others and the bytes of a feed.
+pub fn try_kind<M: Kind>(
+    links: &mut [Option<Link<M>>],
+    cards: &mut [Option<Card<M, M::Limit>>],
+    other_cards: &mut [Option<Card<M, M::Limit>>],
+    labels: &mut [Label<M>],
+    random: &mut Random,
+    tally: &mut Tally,
+) -> Result<(), Difference> {
+    for _ in 0..CATALOGUES {
+        try_catalogue(links, cards, other_cards, labels, random, tally)?;
+        try_sizes(random, tally)?;
+        try_bytes(random, tally)?;
+    }
     Ok(())
 }

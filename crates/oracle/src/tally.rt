@@ -1,4 +1,6 @@
 //! What was tried and compared, in numbers.
+ghost use Rattle.std.specs.Prelude.{◌≡◌, ◌+◌, ◌<◌, ◌^◌};
+
 use crate::calls::PlainReply;
 use std::fmt;
 
@@ -21,8 +23,10 @@ pub struct Tally {
     refusals: [u64; REFUSALS],
 }
 
-// Counts one more.
-pub fn count(counter: &mut u64) {
+// Counts one more, as long as there is room.
+pub fn count(counter: &mut u64)
+    ensures { counter.old + 1 < 2 ^ 64 → counter.new ≡ counter.old + 1 }
+{
     *counter = counter.saturating_add(1);
 }
 
