@@ -76,7 +76,7 @@ fn audit_card<M: Kind>(
 }
 
 // Compares every link place and every card place, and the one past the last of each.
-pub fn audit<M: Kind>(
+pub(crate) fn audit<M: Kind>(
     catalogue: &Catalogue<'_, M>,
     book: &QuoteBook<'_, M, M::Limit>,
     model: &Model,

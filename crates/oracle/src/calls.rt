@@ -25,7 +25,7 @@ pub enum PlainReply {
 }
 
 // What is answered by a refusal with which nothing is returned.
-pub fn refusal(number: u8) -> PlainReply {
+pub(crate) fn refusal(number: u8) -> PlainReply {
     PlainReply::Refused {
         number,
         returned: Returned::Nothing,
@@ -180,7 +180,7 @@ fn call_itself<M: Kind>(
 }
 
 // Carries out the request by its own call, or by the one call for all.
-pub fn carry_out<M: Kind>(
+pub(crate) fn carry_out<M: Kind>(
     catalogue: &mut Catalogue<'_, M>,
     book: &mut QuoteBook<'_, M, M::Limit>,
     workspace: &mut [Label<M>],
@@ -195,7 +195,7 @@ pub fn carry_out<M: Kind>(
 }
 
 // What a reading of the card answers.
-pub fn read_card<M: Kind>(
+pub(crate) fn read_card<M: Kind>(
     book: &QuoteBook<'_, M, M::Limit>,
     card: usize,
     reply: &mut [u16],

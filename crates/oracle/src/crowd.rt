@@ -90,7 +90,12 @@ fn has_apart(values: &[Option<Figures>], wanted: usize) -> bool {
 
 // Whether there are more than k walks from the source that is asked for to the site within the limit, none dominating another. Other walks
 // may well dominate some of these.
-pub fn is_crowded(links: &[Option<PlainLink>], sites: usize, sought: Sought, site: u16) -> bool {
+pub(crate) fn is_crowded(
+    links: &[Option<PlainLink>],
+    sites: usize,
+    sought: Sought,
+    site: u16,
+) -> bool {
     let Sought { card: _, ask, k } = sought;
     let mut values = [None; VALUES];
     note_from(

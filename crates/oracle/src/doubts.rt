@@ -56,7 +56,7 @@ fn is_struck(card: &PlainCard, news: News) -> bool {
 }
 
 // Takes the standing off the cards that the news strikes, and answers how many there are.
-pub fn put_in_doubt(cards: &mut [Option<PlainCard>], news: News) -> usize {
+pub(crate) fn put_in_doubt(cards: &mut [Option<PlainCard>], news: News) -> usize {
     let mut count = 0usize;
     for place in cards.iter_mut() {
         if let Some(card) = *place

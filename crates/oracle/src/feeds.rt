@@ -145,7 +145,7 @@ fn random_feed(random: &mut Random) -> [u8; FEED] {
 }
 
 // Reads a record from random bytes, and writes it back if there is one.
-pub fn try_bytes(random: &mut Random, tally: &mut Tally) -> Result<(), Difference> {
+pub(crate) fn try_bytes(random: &mut Random, tally: &mut Tally) -> Result<(), Difference> {
     let bytes = random_feed(random);
     let feed = &bytes[0..random.below(FEED + 1)];
     let place = random.below(FEED + 2).saturating_sub(random.below(FEED));

@@ -35,7 +35,7 @@ fn summed(a: u64, b: u64) -> u64
 }
 
 // What a walk is worth with a link of the second value more: delays and prices add up, and the worse class counts.
-pub fn joined(walk: Figures, link: Figures) -> Figures {
+pub(crate) fn joined(walk: Figures, link: Figures) -> Figures {
     Figures {
         delay: summed(walk.delay, link.delay),
         price: summed(walk.price, link.price),
@@ -44,7 +44,7 @@ pub fn joined(walk: Figures, link: Figures) -> Figures {
 }
 
 // Whether a link may have the value.
-pub fn is_admitted(value: Figures) -> bool
+pub(crate) fn is_admitted(value: Figures) -> bool
     ensures { IsTrue result ↔ ((value.delay < OVER) × (value.price < OVER) × (value.class < OVER)) }
 {
     value.delay < OVER && value.price < OVER && value.class < OVER
@@ -57,19 +57,19 @@ fn is_limit_number(number: u64) -> bool
 }
 
 // Whether a route may be asked for under the limit.
-pub fn is_limit(limit: Figures) -> bool {
+pub(crate) fn is_limit(limit: Figures) -> bool {
     is_limit_number(limit.delay) && is_limit_number(limit.price) && is_limit_number(limit.class)
 }
 
 // Whether none of the first numbers is greater than the second ones.
-pub fn is_no_worse(first: Figures, second: Figures) -> bool
+pub(crate) fn is_no_worse(first: Figures, second: Figures) -> bool
     ensures { IsTrue result ↔ ((first.delay ≤ second.delay) × (first.price ≤ second.price) × (first.class ≤ second.class)) }
 {
     first.delay <= second.delay && first.price <= second.price && first.class <= second.class
 }
 
 // Whether the first value comes before the second: by delay, then by price, then by class.
-pub fn comes_first(first: Figures, second: Figures) -> bool
+pub(crate) fn comes_first(first: Figures, second: Figures) -> bool
     ensures { IsTrue result ↔ ((first.delay < second.delay) ⊎ ((first.delay ≡ second.delay) × ((first.price < second.price) ⊎ ((first.price ≡ second.price) × (first.class < second.class))))) }
 {
     if first.delay != second.delay {
@@ -96,7 +96,7 @@ fn greater(first: Share, second: Share) -> Share {
 }
 
 // The largest share of the limit that the value uses up.
-pub fn share_of(value: Figures, limit: Figures) -> Share {
+pub(crate) fn share_of(value: Figures, limit: Figures) -> Share {
     let delay = Share {
         top: value.delay,
         bottom: limit.delay,
@@ -113,7 +113,7 @@ pub fn share_of(value: Figures, limit: Figures) -> Share {
 }
 
 // Whether the first value ranks before the second under the limit.
-pub fn ranks_before(first: Figures, second: Figures, limit: Figures) -> bool {
+pub(crate) fn ranks_before(first: Figures, second: Figures, limit: Figures) -> bool {
     let one = share_of(first, limit);
     let two = share_of(second, limit);
     is_smaller(one, two) || (!is_smaller(two, one) && comes_first(first, second))

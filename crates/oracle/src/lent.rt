@@ -11,7 +11,7 @@ pub const BLANK: u16 = 9999;
 const MARKED: usize = 77;
 
 // How many labels, and how many numbers of the reply, are lent for the request.
-pub fn room_for(request: Request) -> (usize, usize) {
+pub(crate) fn room_for(request: Request) -> (usize, usize) {
     match request {
         Request::Quote {
             card: _,
@@ -34,7 +34,7 @@ pub fn room_for(request: Request) -> (usize, usize) {
 }
 
 // Leaves labels as nothing leaves them, so that any use is seen.
-pub fn mark_labels<M: Kind>(labels: &mut [Label<M>]) {
+pub(crate) fn mark_labels<M: Kind>(labels: &mut [Label<M>]) {
     for label in labels.iter_mut() {
         *label = Label {
             state: State::Settled,
@@ -55,7 +55,7 @@ fn is_as_left<M: Kind>(label: &Label<M>, is_used: bool) -> bool {
 }
 
 // Whether routing left every label free, and every other call left them as they were.
-pub fn are_as_left<M: Kind>(labels: &[Label<M>], forecast: Forecast) -> bool {
+pub(crate) fn are_as_left<M: Kind>(labels: &[Label<M>], forecast: Forecast) -> bool {
     let is_used = matches!(forecast, Forecast::Sought(_));
     for label in labels {
         if !is_as_left(label, is_used) {
@@ -66,7 +66,7 @@ pub fn are_as_left<M: Kind>(labels: &[Label<M>], forecast: Forecast) -> bool {
 }
 
 // Whether the numbers are these legs from the start place on, and blank elsewhere.
-pub fn are_legs(numbers: &[u16], start: usize, legs: &[u16]) -> bool {
+pub(crate) fn are_legs(numbers: &[u16], start: usize, legs: &[u16]) -> bool {
     for (i, number) in numbers.iter().enumerate() {
         let wanted = if i < start {
             BLANK

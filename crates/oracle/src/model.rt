@@ -78,7 +78,7 @@ fn is_unfit(sites: usize, room: usize, k: usize) -> bool {
 }
 
 impl Model {
-    pub fn open(sites: usize, places: usize, card_places: usize) -> Model {
+    pub(crate) fn open(sites: usize, places: usize, card_places: usize) -> Model {
         Model {
             sites,
             places,
@@ -92,16 +92,16 @@ impl Model {
         site as usize >= self.sites
     }
 
-    pub fn link(&self, place: usize) -> Option<PlainLink> {
+    pub(crate) fn link(&self, place: usize) -> Option<PlainLink> {
         self.links.get(place).copied().flatten()
     }
 
-    pub fn card(&self, card: usize) -> Option<PlainCard> {
+    pub(crate) fn card(&self, card: usize) -> Option<PlainCard> {
         self.cards.get(card).copied().flatten()
     }
 
     // Whether most link places are empty.
-    pub fn is_sparse(&self) -> bool {
+    pub(crate) fn is_sparse(&self) -> bool {
         let links = self.links.iter().filter(|place| place.is_some()).count();
         links <= self.places / 2
     }
@@ -112,7 +112,7 @@ impl Model {
         }
     }
 
-    pub fn put_card(&mut self, card: usize, what: Option<PlainCard>) {
+    pub(crate) fn put_card(&mut self, card: usize, what: Option<PlainCard>) {
         if let Some(held) = self.cards.get_mut(card) {
             *held = what;
         }
@@ -243,7 +243,7 @@ impl Model {
     }
 
     // What the request should be answered, and what is then held; but what routing finds is not put on its card yet.
-    pub fn foresee(&mut self, request: Request) -> Forecast {
+    pub(crate) fn foresee(&mut self, request: Request) -> Forecast {
         match request {
             Request::Offer { place, link } => self.offer(place, link),
             Request::Change { place, value } => self.change(place, value),
@@ -256,7 +256,7 @@ impl Model {
     }
 
     // What the request should be answered with a quote book that is empty and for another number of sites.
-    pub fn foresee_elsewhere(&self, request: Request, card_places: usize) -> Forecast {
+    pub(crate) fn foresee_elsewhere(&self, request: Request, card_places: usize) -> Forecast {
         match request {
             Request::Discard { card }
             | Request::Read {

@@ -8,7 +8,7 @@ pub struct Random {
 }
 
 impl Random {
-    pub fn from_seed(seed: u64) -> Random {
+    pub(crate) fn from_seed(seed: u64) -> Random {
         Random { state: seed }
     }
 
@@ -23,7 +23,7 @@ impl Random {
     }
 
     // A number below the end; 0 if the end is 0.
-    pub fn below(&mut self, end: usize) -> usize
+    pub(crate) fn below(&mut self, end: usize) -> usize
         ensures most { result ≤ end }
         ensures below { 0 < end → result < end }
     {
@@ -32,12 +32,12 @@ impl Random {
     }
 
     // True once in so many times.
-    pub fn one_in(&mut self, times: usize) -> bool {
+    pub(crate) fn one_in(&mut self, times: usize) -> bool {
         self.below(times) == 0
     }
 
     // A number that a link or a question has for a site: small, so that it fits.
-    pub fn site_below(&mut self, end: usize) -> u16
+    pub(crate) fn site_below(&mut self, end: usize) -> u16
         ensures { 0 < end → end < 2 ^ 16 → result < end }
     {
         u16::try_from(self.below(end)).unwrap_or(u16::MAX)

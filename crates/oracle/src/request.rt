@@ -261,7 +261,7 @@ fn offer(random: &mut Random, model: &Model, style: Style) -> Request {
 }
 
 // The next call: an offer more often while there are few links.
-pub fn draw(random: &mut Random, model: &Model, style: Style) -> Request {
+pub(crate) fn draw(random: &mut Random, model: &Model, style: Style) -> Request {
     if model.is_sparse() && random.one_in(2) {
         return offer(random, model, style);
     }

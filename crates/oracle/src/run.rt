@@ -114,7 +114,7 @@ fn try_catalogue<M: Kind>(
 }
 
 // Tries catalogues of one kind, one after the other in the same places, and beside each a size of others and the bytes of a feed.
-pub fn try_kind<M: Kind>(
+pub(crate) fn try_kind<M: Kind>(
     links: &mut [Option<Link<M>>],
     cards: &mut [Option<Card<M, M::Limit>>],
     other_cards: &mut [Option<Card<M, M::Limit>>],

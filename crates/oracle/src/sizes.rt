@@ -56,7 +56,7 @@ fn is_wanted(tally: &mut Tally, outcome: Result<(), Refusal>, wanted: Option<u8>
 }
 
 // Tries a size of a catalogue and one of a quote book.
-pub fn try_sizes(random: &mut Random, tally: &mut Tally) -> Result<(), Difference> {
+pub(crate) fn try_sizes(random: &mut Random, tally: &mut Tally) -> Result<(), Difference> {
     let sites = size(random, 256);
     let places = size(random, 4096);
     let cards = size(random, 256);

@@ -24,14 +24,14 @@ pub struct Tally {
 }
 
 // Counts one more, as long as there is room.
-pub fn count(counter: &mut u64)
+pub(crate) fn count(counter: &mut u64)
     ensures { counter.old + 1 < 2 ^ 64 → counter.new ≡ counter.old + 1 }
 {
     *counter = counter.saturating_add(1);
 }
 
 impl Tally {
-    pub fn new() -> Tally {
+    pub(crate) fn new() -> Tally {
         Tally {
             catalogues: 0,
             calls: 0,
@@ -45,13 +45,13 @@ impl Tally {
         }
     }
 
-    pub fn note_refusal(&mut self, number: u8) {
+    pub(crate) fn note_refusal(&mut self, number: u8) {
         if let Some(counter) = self.refusals.get_mut(number as usize) {
             count(counter);
         }
     }
 
-    pub fn note_reply(&mut self, reply: PlainReply) {
+    pub(crate) fn note_reply(&mut self, reply: PlainReply) {
         count(&mut self.calls);
         match reply {
             PlainReply::Counted(cards) => self.doubted = self.doubted.saturating_add(cards as u64),
@@ -67,7 +67,7 @@ impl Tally {
     }
 
     // The first number of a refusal that never came.
-    pub fn unreached(&self) -> Option<usize> {
+    pub(crate) fn unreached(&self) -> Option<usize> {
         for (number, counter) in self.refusals.iter().enumerate() {
             if number > 0 && *counter == 0 {
                 return Some(number);

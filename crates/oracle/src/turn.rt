@@ -23,13 +23,13 @@ pub struct Turn {
 }
 
 // The legs of the card's route.
-pub fn legs_of(card: &PlainCard) -> &[u16] {
+pub(crate) fn legs_of(card: &PlainCard) -> &[u16] {
     let legs = card.answer.map_or(0, |route| route.legs);
     &card.legs[..legs.min(LEGS)]
 }
 
 // Whether what is answered is what the best walk is worth, or none where there is none.
-pub fn is_best(model: &Model, ask: PlainAsk, answer: Option<PlainRoute>) -> bool {
+pub(crate) fn is_best(model: &Model, ask: PlainAsk, answer: Option<PlainRoute>) -> bool {
     let best = best_value(&model.links, model.sites, ask);
     match (best, answer) {
         (None, None) => true,
@@ -187,7 +187,7 @@ fn are_numbers_right(model: &Model, forecast: Forecast, request: Request, number
 }
 
 // Has the request carried out by the library, and compares what it answers and what comes back with what the model foresees.
-pub fn take_turn<M: Kind>(
+pub(crate) fn take_turn<M: Kind>(
     catalogue: &mut Catalogue<'_, M>,
     book: &mut QuoteBook<'_, M, M::Limit>,
     labels: &mut [Label<M>],

@@ -44,7 +44,11 @@ fn best_from(
 //
 // Walks of up to as many legs as there are sites are gone through. One with more comes by some site twice; without the legs between it is
 // worth no more in any number, so that it ranks no later. By the same reason one leg less would do.
-pub fn best_value(links: &[Option<PlainLink>], sites: usize, ask: PlainAsk) -> Option<Figures> {
+pub(crate) fn best_value(
+    links: &[Option<PlainLink>],
+    sites: usize,
+    ask: PlainAsk,
+) -> Option<Figures> {
     best_from(links, ask, ask.source, NO_LEGS, sites, None)
 }
 
@@ -60,7 +64,12 @@ fn is_new(seen: &mut [bool], site: u16) -> bool {
 }
 
 // Whether the legs are a walk for what is asked, worth this value, that comes by no site twice.
-pub fn is_route(links: &[Option<PlainLink>], ask: PlainAsk, legs: &[u16], value: Figures) -> bool {
+pub(crate) fn is_route(
+    links: &[Option<PlainLink>],
+    ask: PlainAsk,
+    legs: &[u16],
+    value: Figures,
+) -> bool {
     let mut seen = [false; 8];
     let mut site = ask.source;
     let mut worth = NO_LEGS;
