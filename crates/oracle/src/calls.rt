@@ -147,7 +147,7 @@ fn call_of<M: Kind>(request: Request) -> Call<M, M::Limit> {
     }
 }
 
-// The request's own call, of the seven.
+// The call that the request says, of the seven.
 fn call_itself<M: Kind>(
     catalogue: &mut Catalogue<'_, M>,
     book: &mut QuoteBook<'_, M, M::Limit>,
