@@ -27,9 +27,9 @@ module _ {V L : Type 0} where
   -- a quote book of as many card places and row numbers has rows of the same width
   resized : (q : QuoteBook V L) (sites' : ℕ) {cards cards' : List (Option (Card V L))} {rows rows' : List ℕ} → sites' ≡ q.sites → cards' ≡ cards → rows' ≡ rows →
       length cards ≡ length q.cards.now → length rows ≡ length q.rows.now → whole sites' cards' rows' ≡ sized (book_of q).width cards rows
-  resized q sites' {cards} {cards'} {rows} {rows'} sites is-cards is-rows few long =
-      ap (λ (s : ℕ). whole s cards' rows') sites ∙ ap (λ (xs : List (Option (Card V L))). whole q.sites xs rows') is-cards
-      ∙ ap (λ (xs : List ℕ). whole q.sites cards xs) is-rows ∙ ap (λ (n : ℕ). sized (row_width q.sites n (length rows)) cards rows) few
+  resized q sites' {cards} {cards'} {rows} {rows'} sites same_cards same_rows few long =
+      ap (λ (s : ℕ). whole s cards' rows') sites ∙ ap (λ (xs : List (Option (Card V L))). whole q.sites xs rows') same_cards
+      ∙ ap (λ (xs : List ℕ). whole q.sites cards xs) same_rows ∙ ap (λ (n : ℕ). sized (row_width q.sites n (length rows)) cards rows) few
       ∙ ap (λ (n : ℕ). sized (row_width q.sites (length q.cards.now) n) cards rows) long
 
   -- a quote book whose cards alone are others

@@ -39,7 +39,7 @@ module _ {V L : Type 0} (rule : Rule V L) (b : Book V L) where
   pub partly_more : (cards : List (Option (Card V L))) (i count : ℕ) (fallen : Bool) (count' : ℕ) → i < length cards →
       fallen ≡ fell (strikes rule b i) (at cards i) → count' ≡ count + cond fallen 1 0 →
       Partly cards i count → Partly (set cards i (lapsed (strikes rule b i) (at cards i))) (i + 1) count'
-  partly_more cards i count fallen count' lt fallen-is more p =
+  partly_more cards i count fallen count' lt fallen_is more p =
       let was : at cards i ≡ at b.cards i = p.rest i (omega arith) in
       let after = lapsed (strikes rule b i) (at cards i) in
       let test : ℕ → Bool = λ c. fell (strikes rule b c) (at b.cards c) in
@@ -51,7 +51,7 @@ module _ {V L : Type 0} (rule : Rule V L) (b : Book V L) where
             (λ ne. get_or-set_other cards i c after None ne ∙ p.done c (omega arith))
             (cases_eq c i);
         rest = λ c le. get_or-set_other cards i c after None (omega arith) ∙ p.rest c (omega arith);
-        total = more ∙ ap (λ n. n + cond fallen 1 0) p.total ∙ ap (λ b. tally test i + cond b 1 0) (fallen-is ∙ ap (fell (strikes rule b i)) was)
+        total = more ∙ ap (λ n. n + cond fallen 1 0) p.total ∙ ap (λ b. tally test i + cond b 1 0) (fallen_is ∙ ap (fell (strikes rule b i)) was)
             ∙ ap (tally test) (sym (add-one i));
       }
 

@@ -171,15 +171,15 @@ module _ {V L : Type 0} (K : Kind V L) where
 
   pub unsettled_less : (xs ys : List (Label V)) (h : ℕ) → length xs ≡ length ys → ((p : ℕ) → Done (table K xs) p → Done (table K ys) p) → h < length xs → (Done (table K xs) h → ⊥) → Done (table K ys) h → unsettled ys < unsettled xs
   unfolding unsettled
-  unsettled_less [] [] h e on lt no-x d = absurd (omega arith)
-  unsettled_less [] (y ∷ ys) h e on lt no-x d = absurd (omega arith)
-  unsettled_less (x ∷ xs) [] h e on lt no-x d = absurd (omega arith)
-  unsettled_less (x ∷ xs) (y ∷ ys) zero e on lt no-x d =
+  unsettled_less [] [] h e on lt no_x d = absurd (omega arith)
+  unsettled_less [] (y ∷ ys) h e on lt no_x d = absurd (omega arith)
+  unsettled_less (x ∷ xs) [] h e on lt no_x d = absurd (omega arith)
+  unsettled_less (x ∷ xs) (y ∷ ys) zero e on lt no_x d =
       let a = unsettled_le xs ys (omega arith) (λ p. on (suc p)) in
-      let b = weight_lt (is_settled x.state) (is_settled y.state) no-x d in
+      let b = weight_lt (is_settled x.state) (is_settled y.state) no_x d in
       omega arith
-  unsettled_less (x ∷ xs) (y ∷ ys) (suc h) e on lt no-x d =
-      let a = unsettled_less xs ys h (omega arith) (λ p. on (suc p)) (omega arith) no-x d in
+  unsettled_less (x ∷ xs) (y ∷ ys) (suc h) e on lt no_x d =
+      let a = unsettled_less xs ys h (omega arith) (λ p. on (suc p)) (omega arith) no_x d in
       let b = weight_le (is_settled x.state) (is_settled y.state) (on 0) in
       omega arith
 

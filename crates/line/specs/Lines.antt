@@ -4,7 +4,7 @@ use Rattle.std.specs.List.{flat_map}
 use Rattle.measure.specs.declared.ratio.Ratio.{Ratio}
 use Rattle.report.specs.declared.Mark.{Mark}
 use Rattle.report.specs.declared.Mark.TheVariants.{Standing, Doubtful}
-use Rattle.report.specs.Refusals.{number as refusal-number, returned}
+use Rattle.report.specs.Refusals.{number as refusal_number, returned}
 use Rattle.line.specs.declared.Reply.{Reply}
 use Rattle.line.specs.declared.Reply.TheVariants.{Counted, Route, NoRoute, Refused}
 
@@ -25,7 +25,7 @@ words (Route mark ratio value) legs =
     ∷ decimal value.first.first.number ∷ decimal value.first.second.number ∷ decimal value.second.number
     ∷ decimal (length legs) ∷ map decimal legs
 words (NoRoute mark) legs = codes "none" ∷ mark_word mark ∷ []
-words (Refused why) legs = codes "refused" ∷ decimal (refusal-number why) ∷ map decimal (returned why)
+words (Refused why) legs = codes "refused" ∷ decimal (refusal_number why) ∷ map decimal (returned why)
 
 -- a word after one space
 abbrev pub after_space : List ℕ → List ℕ

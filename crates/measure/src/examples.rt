@@ -1,13 +1,13 @@
 //! Worked examples of the kinds, proved of the definitions and of the calls alike.
 ghost use Rattle.std.specs.Prelude.{◌≡◌, true};
-ghost use Rattle.measure.specs.Examples.{WorkedExamples, sums as sumsOf, tens as tensOf};
+ghost use Rattle.measure.specs.Examples.{WorkedExamples, sums as sums_of, tens as tens_of};
 
 use crate::pair::Pair;
 use crate::scalar::{Sum, Worst};
 use crate::{Measure, Ratio, ranks_before};
 
 fn sums(a: u32, b: u32) -> Pair<Sum, Sum>
-    ensures { result ≡ sumsOf a b }
+    ensures { result ≡ sums_of a b }
 {
     Pair {
         first: Sum::new(a),
@@ -16,7 +16,7 @@ fn sums(a: u32, b: u32) -> Pair<Sum, Sum>
 }
 
 fn tens() -> Pair<u32, u32>
-    ensures { result ≡ tensOf }
+    ensures { result ≡ tens_of }
 {
     Pair {
         first: 10,

@@ -1,6 +1,6 @@
 //! The two kinds whose values are single numbers: sums, and the worst of several.
 ghost use Rattle.std.specs.Prelude.{◌≡◌};
-ghost use Rattle.measure.specs.Scalars.{sum as sum_of, worst as worstOf, sum_kind, worst_kind, bounded_limit};
+ghost use Rattle.measure.specs.Scalars.{sum as sum_of, worst as worst_of, sum_kind, worst_kind, bounded_limit};
 ghost use Rattle.measure.specs.Numbers.{sum_laws, worst_laws};
 
 use crate::{Measure, Ratio};
@@ -91,7 +91,7 @@ pub struct Worst {
 impl Worst {
     // From 2,147,483,648 on, the value over.
     pub fn new(number: u32) -> Worst
-        ensures { result ≡ worstOf number }
+        ensures { result ≡ worst_of number }
     {
         let worst = number.min(OVER);
         Worst { number: worst }

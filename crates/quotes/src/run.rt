@@ -1,6 +1,6 @@
 //! One call after the other: whatever the calls were, what a standing card says is so.
 ghost use Rattle.std.specs.Prelude.{◌≡◌};
-ghost use Rattle.cards.specs.Runs.{lent, counted as countedReply, answered as answeredReply, emptied as emptiedReply, showing as showingReply, Outcome, Continues};
+ghost use Rattle.cards.specs.Runs.{lent, counted as counted_reply, answered as answered_reply, emptied as emptied_reply, showing as showing_reply, Outcome, Continues};
 ghost use Rattle.book.specs.Stores.{memory_of, SameLinks, SamePlaces};
 
 use crate::changes::{change, offer, withdraw};
@@ -13,7 +13,7 @@ use report::{Mark, Refusal};
 use routing::Route;
 
 fn counted<M: Copy>(res: Result<usize, Refusal>) -> Reply<M>
-    ensures { result ≡ countedReply res }
+    ensures { result ≡ counted_reply res }
 {
     match res {
         Ok(count) => Reply::Counted(count),
@@ -22,7 +22,7 @@ fn counted<M: Copy>(res: Result<usize, Refusal>) -> Reply<M>
 }
 
 fn answered<M: Copy>(res: Result<Option<Route<M>>, Refusal>) -> Reply<M>
-    ensures { result ≡ answeredReply res }
+    ensures { result ≡ answered_reply res }
 {
     match res {
         Ok(answer) => Reply::Held {
@@ -34,7 +34,7 @@ fn answered<M: Copy>(res: Result<Option<Route<M>>, Refusal>) -> Reply<M>
 }
 
 fn emptied<M: Copy>(res: Result<(), Refusal>) -> Reply<M>
-    ensures { result ≡ emptiedReply res }
+    ensures { result ≡ emptied_reply res }
 {
     match res {
         Ok(()) => Reply::Counted(0),
@@ -43,7 +43,7 @@ fn emptied<M: Copy>(res: Result<(), Refusal>) -> Reply<M>
 }
 
 fn showing<M: Copy>(res: Result<(Mark, Option<Route<M>>), Refusal>) -> Reply<M>
-    ensures { result ≡ showingReply res }
+    ensures { result ≡ showing_reply res }
 {
     match res {
         Ok((mark, answer)) => Reply::Held { mark, answer },

@@ -2,7 +2,7 @@
 #![tactic(auto)]
 
 ghost use Rattle.std.specs.Prelude.{◌≡◌};
-ghost use Rattle.report.specs.Refusals.{number as number_of, returned as returnedWith, values};
+ghost use Rattle.report.specs.Refusals.{number as number_of, returned as returned_with, values};
 
 // Why a call was turned down. `number` has the number that is printed for each case.
 #[derive(Clone, Copy, PartialEq, Eq, Debug)]
@@ -80,7 +80,7 @@ impl Refusal {
 
     // What is returned with the number.
     pub fn returned(self) -> Returned
-        ensures { values result ≡ returnedWith self }
+        ensures { values result ≡ returned_with self }
     {
         match self {
             Refusal::LabelsFull { site } => Returned::One(site),

@@ -18,19 +18,19 @@ cond_none false x t e = (refl, e)
 
 pub admits : {V L : Type 0} (K : Kind V L) (sites room k : ℕ) (ask : Ask L) (row : ℕ) → topmost (route_causes K sites room k ask row) ≡ None → Admits K sites room k ask row
 admits K sites room k ask row e =
-    let a = cond_none _ _ _ e in
-    let b = cond_none _ _ _ a.1 in
-    let c = cond_none _ _ _ b.1 in
-    let d = cond_none _ _ _ c.1 in
-    let ends = or_parts _ _ a.0 in
-    let sizes = or_parts _ _ c.0 in
+    let joined = cond_none _ _ _ e in
+    let limited = cond_none _ _ _ joined.1 in
+    let sized = cond_none _ _ _ limited.1 in
+    let fitting = cond_none _ _ _ sized.1 in
+    let ends = or_parts _ _ joined.0 in
+    let sizes = or_parts _ _ sized.0 in
     let ks = or_parts _ _ sizes.1 in
     record {
       source = leb-false _ _ ends.0;
-      limit = not-false _ b.0;
+      limit = not-false _ limited.0;
       size = eqb-true _ _ (not-false _ sizes.0);
       some = let one : 1 ≤ k = ltb-false k 1 ks.0 in omega arith;
-      fits = ltb-false _ _ d.0;
+      fits = ltb-false _ _ fitting.0;
     }
 
 pub unrefused : (r : Result (Unit {0}) Refusal) (t : Option Refusal) → r ≡ unless t (Ok tt) → ((why : Refusal) → r ≡ Err why → ⊥) → t ≡ None

@@ -11,14 +11,14 @@ use Rattle.routing.specs.Finds.{sound_link, sound_at}
 module _ {V L : Type 0} (K : Kind V L) (sites : ℕ) (links : List (Option (Link V))) where
   link_sound : (s t : ℕ) (c : V) → sound_link K sites (record { start = s; end = t; value = c }) ≡ true → SoundLink K sites s t c
   link_sound s t c h =
-      let a = and_parts _ _ h in
-      let b = and_parts _ _ a.1 in
-      let d = and_parts _ _ b.1 in
+      let starts = and_parts _ _ h in
+      let ends = and_parts _ _ starts.1 in
+      let apart = and_parts _ _ ends.1 in
       record {
-        start_in = ltb-true _ _ a.0;
-        end_in = ltb-true _ _ b.0;
-        ends_apart = λ e. both_ways _ (not-true _ d.0) (eq-eqb s t e);
-        admitted = d.1;
+        start_in = ltb-true _ _ starts.0;
+        end_in = ltb-true _ _ ends.0;
+        ends_apart = λ e. both_ways _ (not-true _ apart.0) (eq-eqb s t e);
+        admitted = apart.1;
       }
 
   sound_link_passes : (s t : ℕ) (c : V) → SoundLink K sites s t c → sound_link K sites (record { start = s; end = t; value = c }) ≡ true
@@ -26,9 +26,9 @@ module _ {V L : Type 0} (K : Kind V L) (sites : ℕ) (links : List (Option (Link
       and_from _ _ (lt-ltb _ _ h.start_in) (and_from _ _ (lt-ltb _ _ h.end_in) (and_from _ _ (ap not (ne_eqb s t h.ends_apart)) h.admitted))
 
   pub sound_from : sites ≤ 256 → length links ≤ 4096 → ((p : ℕ) → p < length links → sound_at K sites (at links p) ≡ true) → Sound K sites links
-  sound_from few-sites few-places all = record {
-    sites_few = few-sites;
-    places_few = few-places;
+  sound_from few_sites few_places all = record {
+    sites_few = few_sites;
+    places_few = few_places;
     each = λ p s t c h. link_sound s t c (sym (ap (sound_at K sites) h) ∙ all p (holds_inside links p s t c h));
   }
 

@@ -7,7 +7,7 @@ use Rattle.measure.specs.Products.{trunk, trunk_limit, trunk_kind}
 use Rattle.catalogue.specs.declared.Link.{Link}
 use Rattle.records.specs.declared.Measures.{Measures}
 use Rattle.records.specs.declared.Record.{Record}
-use Rattle.records.specs.declared.Record.TheVariants as record-variants
+use Rattle.records.specs.declared.Record.TheVariants as RecordVariants
 use Rattle.routing.specs.declared.Ask.{Ask}
 use Rattle.cards.specs.declared.Call.{Call}
 use Rattle.cards.specs.declared.Call.TheVariants.{Offer, Change, Withdraw, Quote, Recheck, Discard, Read}
@@ -15,7 +15,7 @@ use Rattle.cards.specs.declared.Reply.{Reply}
 use Rattle.cards.specs.declared.Reply.TheVariants.{Counted, Held, Refused}
 use Rattle.cards.specs.Runs.{Memory, Lent, Outcome}
 use Rattle.line.specs.declared.Reply.{Reply as Printed}
-use Rattle.line.specs.declared.Reply.TheVariants as line-variants
+use Rattle.line.specs.declared.Reply.TheVariants as LineVariants
 
 -- delay, price and class
 abbrev pub TrunkValue : Type 0
@@ -43,13 +43,13 @@ ask_of source destination limits = record { source = source; destination = desti
 
 -- the call that a record asks for, with k labels a site
 abbrev pub call_of : Record → ℕ → Call TrunkValue TrunkLimits
-call_of (record-variants.Offer link start end m) k = Offer link (link_of start end m)
-call_of (record-variants.Change link m) k = Change link (value_of m)
-call_of (record-variants.Withdraw link) k = Withdraw link
-call_of (record-variants.Quote card source destination limits) k = Quote card (ask_of source destination limits) k
-call_of (record-variants.Recheck card) k = Recheck card k
-call_of (record-variants.Discard card) k = Discard card
-call_of (record-variants.Read card) k = Read card 0
+call_of (RecordVariants.Offer link start end m) k = Offer link (link_of start end m)
+call_of (RecordVariants.Change link m) k = Change link (value_of m)
+call_of (RecordVariants.Withdraw link) k = Withdraw link
+call_of (RecordVariants.Quote card source destination limits) k = Quote card (ask_of source destination limits) k
+call_of (RecordVariants.Recheck card) k = Recheck card k
+call_of (RecordVariants.Discard card) k = Discard card
+call_of (RecordVariants.Read card) k = Read card 0
 
 -- the card that is read once a quote or a recheck was carried out
 abbrev pub held_card : Reply TrunkValue → ℕ → Option ℕ
@@ -59,13 +59,13 @@ held_card (Refused why) card = None
 
 -- the card that is read after the call of a record, if one is
 abbrev pub card_read : Record → Reply TrunkValue → Option ℕ
-card_read (record-variants.Offer link start end m) reply = None
-card_read (record-variants.Change link m) reply = None
-card_read (record-variants.Withdraw link) reply = None
-card_read (record-variants.Quote card source destination limits) reply = held_card reply card
-card_read (record-variants.Recheck card) reply = held_card reply card
-card_read (record-variants.Discard card) reply = None
-card_read (record-variants.Read card) reply = None
+card_read (RecordVariants.Offer link start end m) reply = None
+card_read (RecordVariants.Change link m) reply = None
+card_read (RecordVariants.Withdraw link) reply = None
+card_read (RecordVariants.Quote card source destination limits) reply = held_card reply card
+card_read (RecordVariants.Recheck card) reply = held_card reply card
+card_read (RecordVariants.Discard card) reply = None
+card_read (RecordVariants.Read card) reply = None
 
 -- the call, and where it answered what a card holds, a reading of that card: two steps of a run at the most
 abbrev pub ReadThen : Memory TrunkValue TrunkLimits → Lent TrunkValue → Reply TrunkValue → Option ℕ → Reply TrunkValue → Memory TrunkValue TrunkLimits → Lent TrunkValue → Type 0
@@ -82,7 +82,7 @@ pub record Served (m : Memory TrunkValue TrunkLimits) (l : Lent TrunkValue) (r :
 
 -- what is printed of a reply, and how many legs its route has
 abbrev pub printed : Reply TrunkValue → Printed × ℕ
-printed (Counted count) = (line-variants.Counted count, 0)
-printed (Held mark None) = (line-variants.NoRoute mark, 0)
-printed (Held mark (Some route)) = (line-variants.Route mark route.ratio route.value, route.legs)
-printed (Refused why) = (line-variants.Refused why, 0)
+printed (Counted count) = (LineVariants.Counted count, 0)
+printed (Held mark None) = (LineVariants.NoRoute mark, 0)
+printed (Held mark (Some route)) = (LineVariants.Route mark route.ratio route.value, route.legs)
+printed (Refused why) = (LineVariants.Refused why, 0)

@@ -23,11 +23,11 @@ loop-place-preserved g c =
     let cards = c.loop-place.book.cards.now in
     let place = c.loop-place.place in
     let inv = c.loop-place.invariant in
-    let now-is : book_of c.loop-place.book ≡ with_cards b cards = same_book c.args.book.now c.loop-place.book.sites inv.2 inv.0.places inv.1 in
+    let now_is : book_of c.loop-place.book ≡ with_cards b cards = same_book c.args.book.now c.loop-place.book.sites inv.2 inv.0.places inv.1 in
     let lt : place < length cards = omega (arith, inv.0.places) in
     let after = c.mark_card.ensures.cards
-    ∙ ap (λ (x : Book g.row.M.Denot g.row.M-Limit.Denot). set cards place (lapsed (strikes rule x place) (at cards place))) now-is in
-    let fallen = c.mark_card.ensures.fell ∙ ap (λ (x : Book g.row.M.Denot g.row.M-Limit.Denot). fell (strikes rule x place) (at cards place)) now-is in (
+    ∙ ap (λ (x : Book g.row.M.Denot g.row.M-Limit.Denot). set cards place (lapsed (strikes rule x place) (at cards place))) now_is in
+    let fallen = c.mark_card.ensures.fell ∙ ap (λ (x : Book g.row.M.Denot g.row.M-Limit.Denot). fell (strikes rule x place) (at cards place)) now_is in (
       subst (λ (xs : List (Option (Card g.row.M.Denot g.row.M-Limit.Denot))). Partly rule b xs (place + 1) c.if-mark_card.count) (sym after)
           (partly_more rule b cards place c.loop-place.count c.mark_card.result c.if-mark_card.count lt fallen more inv.0),
       c.mark_card.ensures.rows ∙ inv.1,
