@@ -190,7 +190,7 @@ writes_back [] place r by o =
 writes_back (x ∷ body) place r by o = by_kind (x ∷ body) place r x by o (omega arith) refl
 
 -- what stands in the buffer after a write reads back
-put_reads_back : (r : Rec) (start : ℕ) (was is : List ℕ) (answer : Result ℕ Refusal)
+pub put_reads_back : (r : Rec) (start : ℕ) (was is : List ℕ) (answer : Result ℕ Refusal)
     → Fit r → Put (encode r) start was is answer → ReadsBack r start is answer
 put_reads_back r start was is (Err why) f p = tt
 put_reads_back r start was is (Ok next) f p =
@@ -208,10 +208,10 @@ pub written : (r : Rec) (start : ℕ) (was is : List ℕ) (answer : Result ℕ R
     → bytes ≡ encode r → Fit r → Put bytes start was is answer → Written r start was is answer
 written r start was is answer e f p =
     let q : Put (encode r) start was is answer = subst (λ (xs : List ℕ). Put xs start was is answer) e p in
-    record { put = q; reads_back = put_reads_back r start was is answer f q }
+    record { fit = f; put = q; reads_back = put_reads_back r start was is answer f q }
 
 -- what was read is written as the same bytes
-read_writes_back : (reading : Reading) (bytes rest : List ℕ) (place : ℕ) → Bytes bytes → reading ≡ reading_of bytes place → rest ≡ unread_of bytes → WritesBack reading bytes rest
+pub read_writes_back : (reading : Reading) (bytes rest : List ℕ) (place : ℕ) → Bytes bytes → reading ≡ reading_of bytes place → rest ≡ unread_of bytes → WritesBack reading bytes rest
 read_writes_back (Record r) bytes rest place by e f = writes_back bytes place r by (sym e) ∙ ap (λ xs. encode r ++ xs) (sym f)
 read_writes_back Nothing bytes rest place by e f = tt
 read_writes_back (Refused why) bytes rest place by e f = tt

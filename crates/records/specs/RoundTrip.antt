@@ -6,7 +6,7 @@ use Rattle.records.specs.declared.Record.{Record as Rec}
 use Rattle.records.specs.declared.Reading.{Reading}
 use Rattle.records.specs.declared.Reading.TheVariants.{Record, Nothing, Refused}
 use Rattle.records.specs.Feed.{reading_of, unread_of, Ahead}
-use Rattle.records.specs.Write.{encode}
+use Rattle.records.specs.Write.{encode, Fit}
 
 -- what a buffer holds after a write reads back as the record from the start place on, and what followed it is left
 abbrev pub ReadsBack : Rec → ℕ → List ℕ → Result ℕ Refusal → Type 0
@@ -28,7 +28,8 @@ pub record ReadsPart (part : List ℕ) (place : ℕ) (reading : Reading) (rest :
   pub within : (input : List ℕ) → part ≡ drop place input → length rest ≤ length input
   pub ahead : (input : List ℕ) → part ≡ drop place input → Ahead reading (place + length rest) (length input)
 
--- the record's bytes are put into the buffer from the start place on, and read back
+-- the record's bytes are put into the buffer from the start place on, and read back, since its numbers fit their widths
 pub record Written (r : Rec) (start : ℕ) (was is : List ℕ) (answer : Result ℕ Refusal) : Type 0 where
+  pub fit : Fit r
   pub put : Put (encode r) start was is answer
   pub reads_back : ReadsBack r start is answer
