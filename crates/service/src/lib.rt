@@ -55,14 +55,13 @@ pub fn call_of(record: Record, k: usize) -> Call<Trunk, TrunkLimit>
             start,
             end,
             measures,
-        } => Call::Offer {
-            place: link as usize,
-            link: Link {
-                start,
-                end,
-                value: value(measures),
-            },
-        },
+        } => {
+            let value = value(measures);
+            Call::Offer {
+                place: link as usize,
+                link: Link { start, end, value },
+            }
+        }
         Record::Change { link, measures } => Call::Change {
             place: link as usize,
             value: value(measures),
@@ -75,15 +74,16 @@ pub fn call_of(record: Record, k: usize) -> Call<Trunk, TrunkLimit>
             source,
             destination,
             limits,
-        } => Call::Quote {
-            card: card as usize,
-            ask: Ask {
+        } => {
+            let card = card as usize;
+            let limit = limit(limits);
+            let ask = Ask {
                 source,
                 destination,
-                limit: limit(limits),
-            },
-            k,
-        },
+                limit,
+            };
+            Call::Quote { card, ask, k }
+        }
         Record::Recheck { card } => Call::Recheck {
             card: card as usize,
             k,
