@@ -6,8 +6,8 @@ use Rattle.book.specs.Stores.{memory_of, network_of, book_of}
 use Rattle.cards.specs.Books.{opened_network, opened_book}
 use Rattle.cards.specs.Runs.{Memory, memory}
 use Rattle.service.specs.Serving.{TrunkValue, TrunkLimits}
-use Rattle.service.specs.Feeds.{PrintsFeed}
-use Rattle.service.specs.Input.{TakesUpTo, Fills, opened_day, PrintsInput}
+use Rattle.service.specs.Feeds.{Room, PrintsFeed}
+use Rattle.service.specs.Input.{TakesUpTo, Fills, opened_day, day_room, PrintsInput}
 
 pub day_opened : (c : Catalogue TrunkValue) (b : QuoteBook TrunkValue TrunkLimits) →
     c.sites ≡ 16 → c.links.now ≡ replicate 32 None → book_of b ≡ opened_book 16 8 (replicate 128 0) → memory_of c b ≡ opened_day
@@ -16,12 +16,13 @@ day_opened c b s l e =
     ap (λ x. memory x (book_of b)) n ∙ ap (λ x. memory (opened_network 16 32) x) e
 
 -- the lines of what the buffer holds of the input
-pub input_printed : (was is out out' : Option (List ℕ)) (buffer : List ℕ) (n : ℕ) (m m' : Memory TrunkValue TrunkLimits) →
-    length buffer ≡ 65536 → Fills was is buffer n → m ≡ opened_day → PrintsFeed (take (n - 0) buffer) 8 m out out' m' → PrintsInput was is out out'
-input_printed was is out out' buffer n m m' long fills day prints =
+pub input_printed : (was is out out' : Option (List ℕ)) (buffer : List ℕ) (n : ℕ) (room : Room) (m m' : Memory TrunkValue TrunkLimits) →
+    length buffer ≡ 65536 → Fills was is buffer n → room ≡ day_room → m ≡ opened_day → PrintsFeed (take (n - 0) buffer) room m out out' m' → PrintsInput was is out out'
+input_printed was is out out' buffer n room m m' long fills lent day prints =
     let whole : take (n - 0) buffer ≡ take n buffer = ap (λ i. take i buffer) (omega arith) in (
       take n buffer,
       subst (λ room. TakesUpTo room was is (take n buffer)) long fills.1,
       m',
-      subst (λ x. PrintsFeed (take n buffer) 8 x out out' m') day (subst (λ x. PrintsFeed x 8 m out out' m') whole prints),
+      subst (λ x. PrintsFeed (take n buffer) day_room x out out' m') day
+          (subst (λ x. PrintsFeed (take n buffer) x m out out' m') lent (subst (λ x. PrintsFeed x room m out out' m') whole prints)),
     )

@@ -11,7 +11,7 @@ use Rattle.book.proofs.Fronts.{take_min}
 use Rattle.line.specs.declared.Reply.{Reply as Printed}
 use Rattle.line.specs.Lines.{line_of}
 use Rattle.service.specs.Serving.{TrunkValue, TrunkLimits, Served}
-use Rattle.service.specs.Feeds.{ServesFirst, one_served, line_for}
+use Rattle.service.specs.Feeds.{Room, Lends, ServesFirst, one_served, line_for}
 
 -- a line of as many of the numbers as there are
 pub line_cut : (number : ℕ) (p q : Printed) (n m i : ℕ) (xs : List ℕ) → p ≡ q → n ≡ m → i ≡ min n (length xs) →
@@ -30,8 +30,8 @@ appends_more (Some xs) (Some ys) None x y h k = absurd k
 appends_more (Some xs) (Some ys) (Some zs) x y h k = k ∙ ap (λ (l : List ℕ). l ++ y) h ∙ append_assoc xs x y
 
 -- one record more was served, and this part of the feed is left
-pub served_more : {feed : List ℕ} {k : ℕ} {m before after : Memory TrunkValue TrunkLimits} {number start : ℕ} {lines : List ℕ} {l l' : Lent TrunkValue} {r : Rec} {reply : Reply TrunkValue} (rest : List ℕ) →
-    ServesFirst feed k m number start lines before → reading_of (drop start feed) start ≡ Record r → Served before l r k reply after l' → rest ≡ unread_of (drop start feed) →
-    ServesFirst feed k m (number + 1) (length feed - length rest) (lines ++ line_for (number + 1) reply l'.reply) after
-served_more {feed} {k} {m} {before} {after} {number} {start} {lines} {l} {l'} {r} {reply} rest first is served left =
-    subst (λ (x : List ℕ). ServesFirst feed k m (number + 1) (length feed - length x) (lines ++ line_for (number + 1) reply l'.reply) after) (sym left) (one_served first is served)
+pub served_more : {feed : List ℕ} {room : Room} {m before after : Memory TrunkValue TrunkLimits} {number start : ℕ} {lines : List ℕ} {l l' : Lent TrunkValue} {r : Rec} {reply : Reply TrunkValue} (rest : List ℕ) →
+    ServesFirst feed room m number start lines before → reading_of (drop start feed) start ≡ Record r → Lends room l → Served before l r room.k reply after l' → rest ≡ unread_of (drop start feed) →
+    ServesFirst feed room m (number + 1) (length feed - length rest) (lines ++ line_for (number + 1) reply l'.reply) after
+served_more {feed} {room} {m} {before} {after} {number} {start} {lines} {l} {l'} {r} {reply} rest first is lends served left =
+    subst (λ (x : List ℕ). ServesFirst feed room m (number + 1) (length feed - length x) (lines ++ line_for (number + 1) reply l'.reply) after) (sym left) (one_served first is lends served)

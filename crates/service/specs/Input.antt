@@ -4,7 +4,7 @@ use Rattle.std.specs.Io.KnownBytes.{Consumes, IsAtEnd}
 use Rattle.cards.specs.Books.{opened_network, opened_book}
 use Rattle.cards.specs.Runs.{Memory, memory}
 use Rattle.service.specs.Serving.{TrunkValue, TrunkLimits}
-use Rattle.service.specs.Feeds.{PrintsFeed}
+use Rattle.service.specs.Feeds.{Room, PrintsFeed}
 
 -- these are the next bytes of the input, so many at the most, and where they are fewer, the input is at its end
 pub record TakesUpTo (room : ℕ) (was is : Option (List ℕ)) (bytes : List ℕ) : Type 0 where
@@ -20,8 +20,12 @@ Fills was is buffer n = (n ≤ length buffer) × TakesUpTo (length buffer) was i
 abbrev pub opened_day : Memory TrunkValue TrunkLimits
 opened_day = memory (opened_network 16 32) (opened_book 16 8 (replicate 128 0))
 
+-- eight labels a site for sixteen sites, and a number for each site
+abbrev pub day_room : Room
+day_room = record { k = 8; labels = 128; numbers = 16 }
+
 -- the input's first 65,536 bytes are a feed, and its lines are printed
 abbrev pub PrintsInput : Option (List ℕ) → Option (List ℕ) → Option (List ℕ) → Option (List ℕ) → Type 0
 PrintsInput was is printed_before printed_after =
     (feed : List ℕ) × TakesUpTo 65536 was is feed
-    × (after : Memory TrunkValue TrunkLimits) × PrintsFeed feed 8 opened_day printed_before printed_after after
+    × (after : Memory TrunkValue TrunkLimits) × PrintsFeed feed day_room opened_day printed_before printed_after after

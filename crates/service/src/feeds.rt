@@ -4,7 +4,7 @@ ghost use Rattle.std.specs.Io.KnownBytes.{Appends};
 ghost use Rattle.book.specs.Stores.{memory_of, SameLinks, SamePlaces};
 ghost use Rattle.cards.specs.Runs.{lent};
 ghost use Rattle.line.specs.Lines.{line_of};
-ghost use Rattle.service.specs.Feeds.{PrintsRecord, PrintsFeed};
+ghost use Rattle.service.specs.Feeds.{PrintsRecord, PrintsFeed, room_of};
 
 use crate::{ServiceError, print, serve};
 use catalogue::Catalogue;
@@ -62,7 +62,7 @@ pub fn serve_feed<W: Write>(
     reply: &mut [u16],
     feed: &[u8],
 ) -> Result<(), ServiceError>
-    ensures printed { OnOk result (PrintsFeed feed.now k (memory_of catalogue.old book.old) (W.Write.contents out.old) (W.Write.contents out.new) (memory_of catalogue.new book.new)) }
+    ensures printed { OnOk result (PrintsFeed feed.now (room_of k labels.old reply.old) (memory_of catalogue.old book.old) (W.Write.contents out.old) (W.Write.contents out.new) (memory_of catalogue.new book.new)) }
     ensures links { SameLinks catalogue.old catalogue.new }
     ensures places { SamePlaces book.old book.new }
 {

@@ -41,7 +41,7 @@ loop-turn-preserved g c =
       ahead = omega arith;
       served = (
         _,
-        served_more rest s.1 (sym c.read_record-reading.ensures.reading ∙ c.in-Record.is) served c.read_record-reading.ensures.rest,
+        served_more rest s.1 (sym c.read_record-reading.ensures.reading ∙ c.in-Record.is) (record { labels = omega arith; numbers = omega arith }) served c.read_record-reading.ensures.rest,
         appends_more _ _ _ _ _ s.2 wrote,
       );
     }
