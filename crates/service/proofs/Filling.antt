@@ -1,8 +1,7 @@
 -- What is read into the rest of a buffer comes behind what was read before.
-use Rattle.std.proofs.Common.{◌≡◌, ℕ, ◌+◌, ◌-◌, ◌≤◌, List, ◌++◌, length, take, Some, None, Option, ap, ◌∙◌, sym, append_assoc, arith}
+use Rattle.std.proofs.Common.{◌≡◌, ℕ, ◌+◌, ◌-◌, ◌≤◌, List, ◌++◌, length, take, ap, ◌∙◌, sym, arith}
 use Rattle.std.proofs.lemmas.List.{take-append-le, length-take-le, length-append}
 use Rattle.std.proofs.Math.Seq.{take-append-add}
-use Rattle.std.specs.Io.KnownBytes.{Consumes}
 use borrow.Rule.Slice.PartMut.{put_mid, post_of}
 
 pub took_more : (buffer room : List ℕ) (got n : ℕ) → got ≤ length buffer → n ≤ length room →
@@ -18,9 +17,3 @@ pub took_fits : (buffer room : List ℕ) (got n : ℕ) → got ≤ length buffer
 took_fits buffer room got n h k =
     let post = post_of got (length buffer - got) buffer in
     omega (arith, length-append (take got buffer) (room ++ post), length-append room post, length-take-le got buffer h)
-
-pub consumes_more : (a b c : Option (List ℕ)) (x y : List ℕ) → Consumes a b x → Consumes b c y → Consumes a c (x ++ y)
-consumes_more None b c x y h k = tt
-consumes_more (Some xs) None c x y h k = absurd h
-consumes_more (Some xs) (Some ys) None x y h k = absurd k
-consumes_more (Some xs) (Some ys) (Some zs) x y h k = h ∙ ap (λ (l : List ℕ). x ++ l) k ∙ sym (append_assoc x y zs)

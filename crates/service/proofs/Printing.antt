@@ -1,6 +1,6 @@
 -- What is printed of a feed, record by record.
-use Rattle.std.proofs.Common.{◌≡◌, ℕ, ◌+◌, ◌-◌, List, [], ◌++◌, length, take, drop, min, Some, None, Option, ap, ◌∙◌, sym, subst, append_assoc}
-use Rattle.std.proofs.lemmas.List.{append-nil}
+use Rattle.std.proofs.Common.{◌≡◌, ℕ, ◌+◌, ◌-◌, List, ◌++◌, length, take, drop, min, Ok, Err, Option, Result, IsErrAnd, inl, inr, refl, ap, ◌∙◌, sym, subst}
+use Rattle.std.proofs.KnownBytes.{Appends-trans}
 use Rattle.std.specs.Io.KnownBytes.{Appends}
 use Rattle.records.specs.declared.Record.{Record as Rec}
 use Rattle.records.specs.declared.Reading.TheVariants.{Record}
@@ -11,7 +11,8 @@ use Rattle.book.proofs.Fronts.{take_min}
 use Rattle.line.specs.declared.Reply.{Reply as Printed}
 use Rattle.line.specs.Lines.{line_of}
 use Rattle.service.specs.Serving.{TrunkValue, TrunkLimits, Served}
-use Rattle.service.specs.Feeds.{Room, Lends, ServesFirst, one_served, line_for}
+use Rattle.service.specs.declared.ServiceError.{ServiceError}
+use Rattle.service.specs.Feeds.{Room, Lends, line_for, PrintsLine, ServesNext, Unreadable, ServesFirst, one_served, unreadable, PrintsFeed}
 
 -- a line of as many of the numbers as there are
 pub line_cut : (number : ℕ) (p q : Printed) (n m i : ℕ) (xs : List ℕ) → p ≡ q → n ≡ m → i ≡ min n (length xs) →
@@ -19,19 +20,51 @@ pub line_cut : (number : ℕ) (p q : Printed) (n m i : ℕ) (xs : List ℕ) → 
 line_cut number p q n m i xs pq nm e =
     ap (λ (x : Printed). line_of number x (take (i - 0) xs)) pq ∙ ap (λ (x : List ℕ). line_of number q x) (take_min n i xs e ∙ ap (λ (x : ℕ). take x xs) nm)
 
-pub appends_nothing : (known : Option (List ℕ)) → Appends known known []
-appends_nothing None = tt
-appends_nothing (Some xs) = sym (append-nil xs)
-
-pub appends_more : (a b c : Option (List ℕ)) (x y : List ℕ) → Appends a b x → Appends b c y → Appends a c (x ++ y)
-appends_more None b c x y h k = tt
-appends_more (Some xs) None c x y h k = absurd h
-appends_more (Some xs) (Some ys) None x y h k = absurd k
-appends_more (Some xs) (Some ys) (Some zs) x y h k = k ∙ ap (λ (l : List ℕ). l ++ y) h ∙ append_assoc xs x y
+-- a record that was read and served is the next
+pub next_served : {feed : List ℕ} {room : Room} {before after : Memory TrunkValue TrunkLimits} {number start : ℕ} {l l' : Lent TrunkValue} {r : Rec} {reply : Reply TrunkValue} →
+    reading_of (drop start feed) start ≡ Record r → Lends room l → Served before l r room.k reply after l' →
+    ServesNext feed room number start before (line_for (number + 1) reply l'.reply) after
+next_served {l = l} {l' = l'} {r = r} {reply = reply} is lends served =
+    record { it = r; reply = reply; brought = l; left = l'; reads = is; lends = lends; serves = served; prints = refl }
 
 -- one record more was served, and this part of the feed is left
-pub served_more : {feed : List ℕ} {room : Room} {m before after : Memory TrunkValue TrunkLimits} {number start : ℕ} {lines : List ℕ} {l l' : Lent TrunkValue} {r : Rec} {reply : Reply TrunkValue} (rest : List ℕ) →
-    ServesFirst feed room m number start lines before → reading_of (drop start feed) start ≡ Record r → Lends room l → Served before l r room.k reply after l' → rest ≡ unread_of (drop start feed) →
-    ServesFirst feed room m (number + 1) (length feed - length rest) (lines ++ line_for (number + 1) reply l'.reply) after
-served_more {feed} {room} {m} {before} {after} {number} {start} {lines} {l} {l'} {r} {reply} rest first is lends served left =
-    subst (λ (x : List ℕ). ServesFirst feed room m (number + 1) (length feed - length x) (lines ++ line_for (number + 1) reply l'.reply) after) (sym left) (one_served first is lends served)
+pub served_more : {feed : List ℕ} {room : Room} {m before after : Memory TrunkValue TrunkLimits} {number start : ℕ} {lines line : List ℕ} (rest : List ℕ) →
+    ServesFirst feed room m number start lines before → ServesNext feed room number start before line after → rest ≡ unread_of (drop start feed) →
+    ServesFirst feed room m (number + 1) (length feed - length rest) (lines ++ line) after
+served_more {feed} {room} {m} {before} {after} {number} {start} {lines} {line} rest first next left =
+    subst (λ (x : List ℕ). ServesFirst feed room m (number + 1) (length feed - length x) (lines ++ line) after) (sym left) (one_served first next)
+
+module _ {feed : List ℕ} {room : Room} {m between : Memory TrunkValue TrunkLimits} {number start : ℕ} (was printed is : Option (List ℕ)) (lines line : List ℕ)
+    (first : ServesFirst feed room m number start lines between) (wrote : Appends was printed lines) where
+  -- the line of what cannot be read was printed behind the others, or the feed broke off at it
+  pub printed_last : (answer : Result (Unit {0}) ServiceError) → Unreadable feed number start line → PrintsLine line printed is answer → PrintsFeed feed room m was is between answer
+  printed_last (Ok done) last p = (lines ++ line, unreadable first last, Appends-trans was printed is lines line wrote p)
+  printed_last (Err error) last p = record {
+    number = number;
+    start = start;
+    lines = lines;
+    line = line;
+    between = between;
+    printed = printed;
+    first = first;
+    written = wrote;
+    next = inr (last, refl);
+    unwritten = p;
+  }
+
+  -- the feed broke off at the line of a record that was served, and answers what that line did
+  pub broke_off : {m' : Memory TrunkValue TrunkLimits} (line_did answer : Result (Unit {0}) ServiceError) (error : ServiceError) → line_did ≡ Err error → IsErrAnd answer (λ e. e ≡ error) →
+      ServesNext feed room number start between line m' → PrintsLine line printed is line_did → PrintsFeed feed room m was is m' answer
+  broke_off line_did (Ok done) error e fails next p = absurd fails
+  broke_off line_did (Err other) error e fails next p = record {
+    number = number;
+    start = start;
+    lines = lines;
+    line = line;
+    between = between;
+    printed = printed;
+    first = first;
+    written = wrote;
+    next = inl next;
+    unwritten = subst (PrintsLine line printed is) (e ∙ ap Err (sym fails)) p;
+  }

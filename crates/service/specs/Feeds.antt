@@ -1,10 +1,13 @@
 -- What is printed of a feed.
-use Rattle.std.specs.Prelude.{◌≡◌, ℕ, ◌+◌, ◌-◌, List, [], ◌++◌, length, take, drop, Option}
+use Rattle.std.specs.Prelude.{◌≡◌, ℕ, ◌+◌, ◌-◌, ◌<◌, ◌⊎◌, Ok, Err, Result, List, [], ◌++◌, length, take, drop, Option}
 use Rattle.std.specs.Io.KnownBytes.{Appends}
 use Rattle.records.specs.declared.Record.{Record as Rec}
 use Rattle.records.specs.declared.Reading.TheVariants.{Record, Nothing, Refused}
 use Rattle.records.specs.Feed.{reading_of, unread_of}
 use Rattle.report.specs.declared.Refusal.{Refusal}
+use Rattle.report.specs.declared.Refusal.TheVariants.{BufferTooShort}
+use Rattle.service.specs.declared.ServiceError.{ServiceError}
+use Rattle.service.specs.declared.ServiceError.TheVariants as ServiceErrors
 use Rattle.labels.specs.declared.Label.{Label}
 use Rattle.cards.specs.declared.Reply.{Reply}
 use Rattle.cards.specs.Runs.{Memory, Lent}
@@ -16,9 +19,21 @@ use Rattle.service.specs.Serving.{TrunkValue, TrunkLimits, Served, printed}
 abbrev pub line_for : ℕ → Reply TrunkValue → List ℕ → List ℕ
 line_for number reply numbers = line_of number (printed reply).0 (take (printed reply).1 numbers)
 
--- the record is served, and its line is written behind what was written before
-abbrev pub PrintsRecord : Memory TrunkValue TrunkLimits → Lent TrunkValue → ℕ → Rec → ℕ → Option (List ℕ) → Option (List ℕ) → Memory TrunkValue TrunkLimits → Lent TrunkValue → Type 0
-PrintsRecord m l number r k was is m' l' = (reply : Reply TrunkValue) × Served m l r k reply m' l' × Appends was is (line_for number reply l'.reply)
+-- Why a line was not written: refusal 19, of a line that has more than 2,048 bytes, and nothing of it is written; or the writer failed, and
+-- nothing is known of what it holds then.
+abbrev pub Unwritten : List ℕ → Option (List ℕ) → Option (List ℕ) → ServiceError → Type 0
+Unwritten line was is (ServiceErrors.Refused why) = (why ≡ BufferTooShort) × (2048 < length line) × (is ≡ was)
+Unwritten line was is (ServiceErrors.Io error) = Unit {0}
+
+-- the line is written behind what was written before, or the answer says why it is not
+abbrev pub PrintsLine : List ℕ → Option (List ℕ) → Option (List ℕ) → Result (Unit {0}) ServiceError → Type 0
+PrintsLine line was is (Ok done) = Appends was is line
+PrintsLine line was is (Err error) = Unwritten line was is error
+
+-- the record is served, whatever becomes of its line
+abbrev pub PrintsRecord : Memory TrunkValue TrunkLimits → Lent TrunkValue → ℕ → Rec → ℕ → Option (List ℕ) → Option (List ℕ) → Memory TrunkValue TrunkLimits → Lent TrunkValue → Result (Unit {0}) ServiceError → Type 0
+PrintsRecord m l number r k was is m' l' answer =
+    (reply : Reply TrunkValue) × Served m l r k reply m' l' × PrintsLine (line_for number reply l'.reply) was is answer
 
 -- What is lent to each call that a feed asks for: how many labels a site, and how many labels and numbers in all.
 pub record Room : Type 0 where
@@ -35,22 +50,53 @@ pub record Lends (room : Room) (l : Lent TrunkValue) : Type 0 where
   pub labels : length l.labels ≡ room.labels
   pub numbers : length l.reply ≡ room.numbers
 
--- So many records of the feed were served, one after the other, each with so much lent to its call: where the next one starts, the lines
--- of those that were served, and the memory after them.
+-- The next record of the feed, which begins at the place, was served with so much lent to its call: its line, and the memory after it. It
+-- comes after so many others.
+pub record ServesNext (feed : List ℕ) (room : Room) (number start : ℕ) (before : Memory TrunkValue TrunkLimits) (line : List ℕ) (after : Memory TrunkValue TrunkLimits) : Type 0 where
+  pub it : Rec
+  pub reply : Reply TrunkValue
+  pub brought : Lent TrunkValue
+  pub left : Lent TrunkValue
+  pub reads : reading_of (drop start feed) start ≡ Record it
+  pub lends : Lends room brought
+  pub serves : Served before brought it room.k reply after left
+  pub prints : line ≡ line_for (number + 1) reply left.reply
+
+-- what begins at the place cannot be read, and this is its line
+pub record Unreadable (feed : List ℕ) (number start : ℕ) (line : List ℕ) : Type 0 where
+  pub why : Refusal
+  pub reads : reading_of (drop start feed) start ≡ Refused why
+  pub prints : line ≡ line_of (number + 1) (LineVariants.Refused why) []
+
+-- So many records of the feed were served, one after the other: where the next one starts, the lines of those that were served, and the
+-- memory after them.
 pub data ServesFirst (feed : List ℕ) (room : Room) (m : Memory TrunkValue TrunkLimits) : ℕ → ℕ → List ℕ → Memory TrunkValue TrunkLimits → Type 0 where
   none_served : ServesFirst feed room m 0 0 [] m
-  one_served : {number start : ℕ} {lines : List ℕ} {before after : Memory TrunkValue TrunkLimits} {l l' : Lent TrunkValue} {r : Rec} {reply : Reply TrunkValue} →
-      ServesFirst feed room m number start lines before → reading_of (drop start feed) start ≡ Record r → Lends room l → Served before l r room.k reply after l' →
-      ServesFirst feed room m (number + 1) (length feed - length (unread_of (drop start feed))) (lines ++ line_for (number + 1) reply l'.reply) after
+  one_served : {number start : ℕ} {lines line : List ℕ} {before after : Memory TrunkValue TrunkLimits} →
+      ServesFirst feed room m number start lines before → ServesNext feed room number start before line after →
+      ServesFirst feed room m (number + 1) (length feed - length (unread_of (drop start feed))) (lines ++ line) after
 
 -- The lines of a whole feed, and the memory after it: it ends with its last record, or with the line of one that cannot be read.
 pub data LinesOf (feed : List ℕ) (room : Room) (m : Memory TrunkValue TrunkLimits) : List ℕ → Memory TrunkValue TrunkLimits → Type 0 where
   at_its_end : {number start : ℕ} {lines : List ℕ} {after : Memory TrunkValue TrunkLimits} →
       ServesFirst feed room m number start lines after → reading_of (drop start feed) start ≡ Nothing → LinesOf feed room m lines after
-  unreadable : {number start : ℕ} {lines : List ℕ} {after : Memory TrunkValue TrunkLimits} {why : Refusal} →
-      ServesFirst feed room m number start lines after → reading_of (drop start feed) start ≡ Refused why →
-      LinesOf feed room m (lines ++ line_of (number + 1) (LineVariants.Refused why) []) after
+  unreadable : {number start : ℕ} {lines line : List ℕ} {after : Memory TrunkValue TrunkLimits} →
+      ServesFirst feed room m number start lines after → Unreadable feed number start line → LinesOf feed room m (lines ++ line) after
 
--- the lines of the feed are written behind what was written before
-abbrev pub PrintsFeed : List ℕ → Room → Memory TrunkValue TrunkLimits → Option (List ℕ) → Option (List ℕ) → Memory TrunkValue TrunkLimits → Type 0
-PrintsFeed feed room m was is m' = (lines : List ℕ) × LinesOf feed room m lines m' × Appends was is lines
+-- The feed broke off at a line that was not written, once the lines of all records before it were.
+pub record BreaksOff (feed : List ℕ) (room : Room) (m : Memory TrunkValue TrunkLimits) (was is : Option (List ℕ)) (m' : Memory TrunkValue TrunkLimits) (error : ServiceError) : Type 0 where
+  pub number : ℕ
+  pub start : ℕ
+  pub lines : List ℕ
+  pub line : List ℕ
+  pub between : Memory TrunkValue TrunkLimits
+  pub printed : Option (List ℕ)
+  pub first : ServesFirst feed room m number start lines between
+  pub written : Appends was printed lines
+  pub next : ServesNext feed room number start between line m' ⊎ (Unreadable feed number start line × (m' ≡ between))
+  pub unwritten : Unwritten line printed is error
+
+-- the lines of the feed are written behind what was written before, or it broke off
+abbrev pub PrintsFeed : List ℕ → Room → Memory TrunkValue TrunkLimits → Option (List ℕ) → Option (List ℕ) → Memory TrunkValue TrunkLimits → Result (Unit {0}) ServiceError → Type 0
+PrintsFeed feed room m was is m' (Ok done) = (lines : List ℕ) × LinesOf feed room m lines m' × Appends was is lines
+PrintsFeed feed room m was is m' (Err error) = BreaksOff feed room m was is m' error

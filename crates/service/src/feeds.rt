@@ -1,10 +1,10 @@
 //! A whole feed: its records are served in order, and a line is written for each.
-ghost use Rattle.std.specs.Prelude.{◌≡◌, OnOk};
+ghost use Rattle.std.specs.Prelude.{◌≡◌};
 ghost use Rattle.std.specs.Io.KnownBytes.{Appends};
 ghost use Rattle.book.specs.Stores.{memory_of, SameLinks, SamePlaces};
 ghost use Rattle.cards.specs.Runs.{lent};
 ghost use Rattle.line.specs.Lines.{line_of};
-ghost use Rattle.service.specs.Feeds.{PrintsRecord, PrintsFeed, room_of};
+ghost use Rattle.service.specs.Feeds.{PrintsLine, PrintsRecord, PrintsFeed, room_of};
 
 use crate::{ServiceError, print, serve};
 use catalogue::Catalogue;
@@ -25,7 +25,7 @@ pub fn print_line<W: Write>(
     reply: Printed,
     legs: &[u16],
 ) -> Result<(), ServiceError>
-    ensures { OnOk result (Appends (W.Write.contents out.old) (W.Write.contents out.new) (line_of number reply legs.now)) }
+    ensures { PrintsLine (line_of number reply legs.now) (W.Write.contents out.old) (W.Write.contents out.new) result }
 {
     let mut buffer = [0u8; LINE];
     let end = write_line(number, reply, legs, &mut buffer, 0)?;
@@ -44,7 +44,7 @@ pub fn serve_record<W: Write>(
     reply: &mut [u16],
     record: Record,
 ) -> Result<(), ServiceError>
-    ensures printed { OnOk result (PrintsRecord (memory_of catalogue.old book.old) (lent labels.old reply.old) number «record» k (W.Write.contents out.old) (W.Write.contents out.new) (memory_of catalogue.new book.new) (lent labels.new reply.new)) }
+    ensures printed { PrintsRecord (memory_of catalogue.old book.old) (lent labels.old reply.old) number «record» k (W.Write.contents out.old) (W.Write.contents out.new) (memory_of catalogue.new book.new) (lent labels.new reply.new) result }
     ensures links { SameLinks catalogue.old catalogue.new }
     ensures places { SamePlaces book.old book.new }
 {
@@ -62,7 +62,7 @@ pub fn serve_feed<W: Write>(
     reply: &mut [u16],
     feed: &[u8],
 ) -> Result<(), ServiceError>
-    ensures printed { OnOk result (PrintsFeed feed.now (room_of k labels.old reply.old) (memory_of catalogue.old book.old) (W.Write.contents out.old) (W.Write.contents out.new) (memory_of catalogue.new book.new)) }
+    ensures printed { PrintsFeed feed.now (room_of k labels.old reply.old) (memory_of catalogue.old book.old) (W.Write.contents out.old) (W.Write.contents out.new) (memory_of catalogue.new book.new) result }
     ensures links { SameLinks catalogue.old catalogue.new }
     ensures places { SamePlaces book.old book.new }
 {

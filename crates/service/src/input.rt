@@ -1,5 +1,5 @@
 //! The trunk product's program: the input is read as a feed and served from its first record to its last.
-ghost use Rattle.std.specs.Prelude.{IfOk, OnOk};
+ghost use Rattle.std.specs.Prelude.{IfOk};
 ghost use Rattle.service.specs.Input.{Fills, PrintsInput};
 
 use crate::ServiceError;
@@ -51,7 +51,7 @@ pub fn read_input<R: Read>(input: &mut R, buffer: &mut [u8]) -> io::Result<usize
 // Opens a catalogue of sixteen sites and thirty-two link places and a quote book of eight cards, reads up to 65,536 bytes of input as a
 // feed, and writes a line for each record, with eight labels a site.
 pub fn serve_input<R: Read, W: Write>(input: &mut R, out: &mut W) -> Result<(), ServiceError>
-    ensures { OnOk result (PrintsInput (R.Read.remaining input.old) (R.Read.remaining input.new) (W.Write.contents out.old) (W.Write.contents out.new)) }
+    ensures { PrintsInput (R.Read.remaining input.old) (R.Read.remaining input.new) (W.Write.contents out.old) (W.Write.contents out.new) result }
 {
     let mut buffer = [0u8; INPUT];
     let mut links = [None; PLACES];

@@ -4,6 +4,7 @@
 ghost use Rattle.std.specs.Prelude.{◌≡◌, ◌+◌, length};
 ghost use Rattle.cards.specs.Runs.{lent};
 ghost use Rattle.book.specs.Stores.{memory_of, SameLinks, SamePlaces};
+ghost use Rattle.service.specs.declared.ServiceError.TheVariants as ServiceErrors;
 ghost use Rattle.service.specs.Serving.{value_of, limit_of, call_of, card_read, printed, Served};
 
 use cards::{Call, Reply};
@@ -28,9 +29,25 @@ pub use input::{read_input, serve_input};
 #[derive(Debug, Drop, Error)]
 pub enum ServiceError {
     #[error("turned down: {0:?}")]
-    Refused(#[from] Refusal),
+    Refused(Refusal),
     #[error("the input or the output failed: {0}")]
-    Io(#[from] io::Error),
+    Io(io::Error),
+}
+
+impl From<Refusal> for ServiceError {
+    ghost from_gives = { λ why e. e ≡ ServiceErrors.Refused why };
+
+    fn from(why: Refusal) -> ServiceError {
+        ServiceError::Refused(why)
+    }
+}
+
+impl From<io::Error> for ServiceError {
+    ghost from_gives = { λ error e. e ≡ ServiceErrors.Io error };
+
+    fn from(error: io::Error) -> ServiceError {
+        ServiceError::Io(error)
+    }
 }
 
 fn value(measures: Measures) -> Trunk

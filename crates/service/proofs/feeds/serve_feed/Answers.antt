@@ -1,9 +1,9 @@
 use Rattle.std.proofs.Common.{ℕ, ◌+◌, ◌<◌, [], length, drop, length-drop, refl, sym, subst, ◌∙◌, arith}
-use Rattle.std.proofs.lemmas.Result.{on_ok_weaker}
 use Rattle.records.specs.Feed.{Ahead}
 use Rattle.records.proofs.Readings.{reads_nothing}
-use Rattle.service.specs.Feeds.{none_served, at_its_end, unreadable}
-use Rattle.service.proofs.Printing.{appends_nothing, appends_more, served_more}
+use Rattle.service.specs.Feeds.{none_served, at_its_end}
+use Rattle.std.proofs.KnownBytes.{Appends-nil, Appends-trans}
+use Rattle.service.proofs.Printing.{next_served, served_more, printed_last, broke_off}
 use Rattle.service.proofs.feeds.serve_feed.Goals as goal
 
 pub loop-turn-init : goal.loop-turn-init
@@ -12,7 +12,7 @@ loop-turn-init g c = record {
   places = (refl, refl);
   within = omega arith;
   ahead = omega arith;
-  served = ([], none_served, appends_nothing (g.W.Write.contents c.args.out.now));
+  served = ([], none_served, Appends-nil (g.W.Write.contents c.args.out.now));
 }
 
 pub returns-in-Nothing-clause-printed : goal.returns-in-Nothing-clause-printed
@@ -23,9 +23,15 @@ returns-in-Nothing-clause-printed g c =
 pub returns-in-Refused-clause-printed : goal.returns-in-Refused-clause-printed
 returns-in-Refused-clause-printed g c =
     let s = c.loop-turn.invariant.served in
-    on_ok_weaker c.print_line.result
-    (λ a. (_, unreadable s.1 (sym c.read_record-reading.ensures.reading ∙ c.in-Refused.is), appends_more _ _ _ _ _ s.2 a))
-    c.print_line.ensures
+    printed_last _ _ _ _ _ s.1 s.2 c.print_line.result
+    (record { why = c.in-Refused.why; reads = sym c.read_record-reading.ensures.reading ∙ c.in-Refused.is; prints = refl }) c.print_line.ensures
+
+pub returns-in_err-serve_record-in-Record-clause-printed : goal.returns-in_err-serve_record-in-Record-clause-printed
+returns-in_err-serve_record-in-Record-clause-printed g c =
+    let s = c.loop-turn.invariant.served in
+    let (reply, served, printed) = c.serve_record.ensures.printed in
+    broke_off _ _ _ _ _ s.1 s.2 c.serve_record.result c.from_residual.result _ c.in_err-serve_record-in-Record.was c.from_residual.ensures.1
+    (next_served (sym c.read_record-reading.ensures.reading ∙ c.in-Record.is) (record { labels = omega arith; numbers = omega arith }) served) printed
 
 pub loop-turn-preserved : goal.loop-turn-preserved
 loop-turn-preserved g c =
@@ -41,8 +47,8 @@ loop-turn-preserved g c =
       ahead = omega arith;
       served = (
         _,
-        served_more rest s.1 (sym c.read_record-reading.ensures.reading ∙ c.in-Record.is) (record { labels = omega arith; numbers = omega arith }) served c.read_record-reading.ensures.rest,
-        appends_more _ _ _ _ _ s.2 wrote,
+        served_more rest s.1 (next_served (sym c.read_record-reading.ensures.reading ∙ c.in-Record.is) (record { labels = omega arith; numbers = omega arith }) served) c.read_record-reading.ensures.rest,
+        Appends-trans _ _ _ _ _ s.2 wrote,
       );
     }
 

@@ -1,6 +1,7 @@
 use Rattle.std.proofs.Common.{List, ℕ, subst, sym, arith}
 use Rattle.std.specs.Io.KnownBytes.{Consumes}
-use Rattle.service.proofs.Filling.{took_more, took_fits, consumes_more}
+use Rattle.std.proofs.KnownBytes.{Consumes-trans}
+use Rattle.service.proofs.Filling.{took_more, took_fits}
 use Rattle.service.proofs.input.read_input.Goals as goal
 
 pub loop-preserved : goal.loop-preserved
@@ -12,5 +13,5 @@ loop-preserved g c =
       bytes =
           subst (λ (x : List ℕ). Consumes (g.R.Read.remaining c.args.input.now) (g.R.Read.remaining c.read.new.self) x)
           (sym (took_more c.loop.buffer c.read.new.buf c.loop.got c.in_ok-n.n c.loop.invariant.fits read.bound.0))
-          (consumes_more _ _ _ _ _ c.loop.invariant.bytes read.bytes.0);
+          (Consumes-trans _ _ _ _ _ c.loop.invariant.bytes read.bytes.0);
     }

@@ -1,13 +1,11 @@
 use Rattle.std.proofs.Common.{◌≡◌, ℕ, length, refl, arith}
-use Rattle.std.proofs.lemmas.Result.{on_ok_weaker}
 use Rattle.std.proofs.lemmas.List.{length-replicate}
-use Rattle.service.proofs.Opening.{day_opened, input_printed}
+use Rattle.service.proofs.Opening.{day_opened, input_printed, served_whole}
 use Rattle.service.proofs.input.serve_input.Goals as goal
 
 pub returns : goal.returns
 returns g c =
     let day = day_opened c.open-catalogue.result c.open-book.result c.open-catalogue.ensures.sites c.open-catalogue.ensures.links c.open-book.ensures.book in
     let long : length c.read_input.new.buffer ≡ 65536 = omega (arith, c.read_input.auto.buffer, length-replicate {A = ℕ}) in
-    on_ok_weaker c.serve_feed.result
-    (λ p. input_printed _ _ _ _ c.read_input.new.buffer c.in_ok-got.got _ _ _ long c.in_ok-got.ensures refl day p)
-    c.serve_feed.ensures.printed
+    served_whole _ _ _ _ c.serve_feed.result
+    (input_printed _ _ _ _ c.read_input.new.buffer c.in_ok-got.got _ _ _ _ long c.in_ok-got.ensures refl day c.serve_feed.ensures.printed)
