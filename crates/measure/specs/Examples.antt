@@ -1,10 +1,9 @@
 -- Worked examples, on pairs of sums under the limits (10, 10) where nothing else is said.
 use Rattle.std.specs.Prelude.{◌≡◌, ℕ, true, false}
 use Rattle.measure.specs.declared.pair.Pair.{Pair}
-use Rattle.measure.specs.declared.scalar.Sum.{Sum}
 use Rattle.measure.specs.Kind.{Kind}
 use Rattle.measure.specs.Ratios.{ratio_of}
-use Rattle.measure.specs.Scalars.{over, sum, worst, sum_kind, worst_kind}
+use Rattle.measure.specs.Scalars.{Sum, over, sum, worst, sum_kind, worst_kind}
 use Rattle.measure.specs.Pairs.{pair, pair_kind}
 use Rattle.measure.specs.Ranks.{ranks}
 

@@ -1,10 +1,8 @@
 -- The kinds of the two products.
 use Rattle.std.specs.Prelude.{ℕ}
 use Rattle.measure.specs.declared.pair.Pair.{Pair}
-use Rattle.measure.specs.declared.scalar.Sum.{Sum}
-use Rattle.measure.specs.declared.scalar.Worst.{Worst}
 use Rattle.measure.specs.Kind.{Kind}
-use Rattle.measure.specs.Scalars.{sum, worst, sum_kind, worst_kind}
+use Rattle.measure.specs.Scalars.{Sum, Worst, sum, worst, sum_kind, worst_kind}
 use Rattle.measure.specs.Pairs.{pair, pair_kind}
 
 -- delay, price and class

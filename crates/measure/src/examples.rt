@@ -9,37 +9,22 @@ use crate::{Measure, Ratio, ranks_before};
 fn sums(a: u32, b: u32) -> Pair<Sum, Sum>
     ensures { result ≡ sums_of a b }
 {
-    Pair {
-        first: Sum::new(a),
-        second: Sum::new(b),
-    }
+    Pair::new(Sum::new(a), Sum::new(b))
 }
 
 fn tens() -> Pair<u32, u32>
     ensures { result ≡ tens_of }
 {
-    Pair {
-        first: 10,
-        second: 10,
-    }
+    Pair::new(10, 10)
 }
 
 // What the calls answer on the examples of ratios, limits and rank.
 fn ratios_agree() -> bool
     ensures { result ≡ true }
 {
-    let one = sums(7, 4).ratio(tens());
-    let two = sums(5, 6).ratio(tens());
-    let tie = sums(4, 2).ratio(Pair {
-        first: 8,
-        second: 4,
-    });
-    one.top == 7
-        && one.bottom == 10
-        && two.top == 6
-        && two.bottom == 10
-        && tie.top == 4
-        && tie.bottom == 8
+    sums(7, 4).ratio(tens()) == Ratio { top: 7, bottom: 10 }
+        && sums(5, 6).ratio(tens()) == Ratio { top: 6, bottom: 10 }
+        && sums(4, 2).ratio(Pair::new(8, 4)) == Ratio { top: 4, bottom: 8 }
 }
 
 // What the calls answer on the examples of limits, dominance and rank.

@@ -41,6 +41,7 @@ pub trait Measure: Copy {
         ensures { result ≡ kind.dominates self other };
 
     // Whether this value comes before the other in the value order.
+    // A call of the kind and no bound `Ord`, whose laws would be owed of every value, also of those that cannot come about.
     fn before(self, other: Self) -> bool
         ensures { result ≡ kind.before self other };
 

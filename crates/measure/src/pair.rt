@@ -1,6 +1,6 @@
 //! Two kinds side by side, and the products' kinds.
 ghost use Rattle.std.specs.Prelude.{◌≡◌};
-ghost use Rattle.measure.specs.Pairs.{pair_kind};
+ghost use Rattle.measure.specs.Pairs.{pair, pair_kind};
 ghost use Rattle.measure.specs.Products.{trunk, trunk_limit};
 ghost use Rattle.measure.specs.Paired.{pair_laws};
 
@@ -12,6 +12,14 @@ use crate::{Measure, Ratio};
 pub struct Pair<A, B> {
     pub first: A,
     pub second: B,
+}
+
+impl<A, B> Pair<A, B> {
+    pub(crate) fn new(first: A, second: B) -> Self
+        ensures { result ≡ pair first second }
+    {
+        Pair { first, second }
+    }
 }
 
 impl<A: Measure, B: Measure> Measure for Pair<A, B> {
@@ -30,17 +38,11 @@ impl<A: Measure, B: Measure> Measure for Pair<A, B> {
     }
 
     fn empty() -> Self {
-        Pair {
-            first: A::empty(),
-            second: B::empty(),
-        }
+        Pair::new(A::empty(), B::empty())
     }
 
     fn join(self, next: Self) -> Self {
-        Pair {
-            first: self.first.join(next.first),
-            second: self.second.join(next.second),
-        }
+        Pair::new(self.first.join(next.first), self.second.join(next.second))
     }
 
     fn dominates(self, other: Self) -> bool {
@@ -71,26 +73,18 @@ pub type TrunkLimit = Pair<Pair<u32, u32>, u32>;
 // The loop catalogue's kind: delay alone.
 pub type Loop = Sum;
 
+// The parameters name the three numbers. A `From` of three numbers in a row would leave their order to be remembered.
 pub fn trunk_value(delay: u32, price: u32, class: u32) -> Trunk
     ensures { result ≡ trunk delay price class }
 {
-    Pair {
-        first: Pair {
-            first: Sum::new(delay),
-            second: Sum::new(price),
-        },
-        second: Worst::new(class),
-    }
+    Pair::new(
+        Pair::new(Sum::new(delay), Sum::new(price)),
+        Worst::new(class),
+    )
 }
 
 pub fn trunk_limits(delay: u32, price: u32, class: u32) -> TrunkLimit
     ensures { result ≡ trunk_limit delay price class }
 {
-    Pair {
-        first: Pair {
-            first: delay,
-            second: price,
-        },
-        second: class,
-    }
+    Pair::new(Pair::new(delay, price), class)
 }

@@ -39,7 +39,7 @@ pub enum Refusal {
     BufferTooShort,
 }
 
-// The numbers that go with a refusal.
+// The numbers that go with a refusal. A case for each count: a pair of `Option` would allow a second number with no first.
 #[derive(Clone, Copy, PartialEq, Eq, Debug)]
 pub enum Returned {
     Nothing,
@@ -48,7 +48,7 @@ pub enum Returned {
 }
 
 impl Refusal {
-    // The number by which the refusal is known in print.
+    // The number by which the refusal is known in print. A method and no `From`, since the name says which number it is.
     pub fn number(self) -> u8
         ensures { result ≡ number_of self }
     {
@@ -68,12 +68,9 @@ impl Refusal {
             Refusal::CardEmpty => 13,
             Refusal::WorkspaceSize => 14,
             Refusal::ReplyTooShort => 15,
-            Refusal::LabelsFull { site: _ } => 16,
-            Refusal::UnknownKind { place: _ } => 17,
-            Refusal::CutShort {
-                place: _,
-                missing: _,
-            } => 18,
+            Refusal::LabelsFull { .. } => 16,
+            Refusal::UnknownKind { .. } => 17,
+            Refusal::CutShort { .. } => 18,
             Refusal::BufferTooShort => 19,
         }
     }

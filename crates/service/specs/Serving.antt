@@ -1,8 +1,7 @@
 -- What becomes of a record.
 use Rattle.std.specs.Prelude.{◌≡◌, ℕ, Some, None, Option}
 use Rattle.measure.specs.declared.pair.Pair.{Pair}
-use Rattle.measure.specs.declared.scalar.Sum.{Sum}
-use Rattle.measure.specs.declared.scalar.Worst.{Worst}
+use Rattle.measure.specs.Scalars.{Sum, Worst}
 use Rattle.measure.specs.Products.{trunk, trunk_limit, trunk_kind}
 use Rattle.catalogue.specs.declared.Link.{Link}
 use Rattle.records.specs.declared.Measures.{Measures}
