@@ -1,2 +1,0 @@
-mod Pasting
-mod Wording

@@ -1,0 +1,45 @@
+//! The words of a line.
+ghost use Rattle.std.specs.Prelude.{◌≡◌, ◌++◌, map, decimal};
+ghost use Rattle.std.specs.List.{flat_map};
+ghost use Rattle.line.specs.Lines.{after_space};
+ghost use Rattle.line.specs.Words.{spelled};
+
+use crate::sinks::Sink;
+use measure::Ratio;
+
+#[derive(Clone, Copy)]
+pub(crate) enum Word {
+    Text(&'static [u8]),
+    Number(usize),
+    Share(Ratio),
+}
+
+impl Word {
+    fn put<S: Sink>(self, sink: &mut S)
+        ensures { S.took sink.old (spelled self) sink.new }
+    {
+        match self {
+            Word::Text(text) => sink.put(text),
+            Word::Number(n) => sink.put_number(n),
+            Word::Share(ratio) => {
+                sink.put_number(ratio.top);
+                sink.put(b"/");
+                sink.put_number(ratio.bottom);
+            }
+        }
+    }
+}
+
+// Puts the words and then the legs into a sink, each after one space.
+pub(crate) fn put_words<S: Sink>(words: &[Word], legs: &[u16], sink: &mut S)
+    ensures { S.took sink.old (flat_map after_space (map spelled words.now ++ map decimal legs.now)) sink.new }
+{
+    for word in words {
+        sink.put(b" ");
+        word.put(sink);
+    }
+    for leg in legs {
+        sink.put(b" ");
+        sink.put_number(*leg);
+    }
+}
