@@ -1,5 +1,5 @@
 //! Records cut short by every length, unknown kinds, and measures past the last that is admitted.
-use feed::{Measures, Reading, Record, read_record, write_record};
+use feed::{Measures, Record, read_record, write_record};
 use report::Refusal;
 
 const EDGES: Measures = Measures {
@@ -40,7 +40,7 @@ fn every_record_comes_back(rt: HostRuntime) {
         let mut buffer = [9u8; 24];
         assert_eq!(rt; write_record(record, &mut buffer, 2), Ok(end));
         let (reading, rest) = read_record(&buffer, 2);
-        assert_eq!(rt; reading, Reading::Record(record));
+        assert_eq!(rt; reading, Ok(Some(record)));
         assert_eq!(rt; rest.len(), 24 - end);
     }
 }
@@ -54,7 +54,7 @@ fn every_record_is_cut_short_at_every_length(rt: HostRuntime) {
             let (reading, rest) = read_record(&buffer[0..length.min(24)], 2);
             assert_eq!(rt;
                 reading,
-                Reading::Refused(Refusal::CutShort {
+                Err(Refusal::CutShort {
                     place: 2,
                     missing: end.saturating_sub(length),
                 })
@@ -81,7 +81,7 @@ fn other_kinds_are_unknown(rt: HostRuntime) {
     for kind in 0..=255u8 {
         let bytes = [3, kind, 0, 0];
         let (reading, rest) = read_record(&bytes, 1);
-        let unknown = reading == Reading::Refused(Refusal::UnknownKind { place: 1 });
+        let unknown = reading == Err(Refusal::UnknownKind { place: 1 });
         assert_eq!(rt; unknown, kind < 1 || 7 < kind);
         assert!(rt; rest.is_empty());
     }
@@ -92,7 +92,7 @@ fn nothing_stands_past_the_end(rt: HostRuntime) {
     for start in [3, 4, usize::MAX] {
         let bytes = [3, 0, 0];
         let (reading, rest) = read_record(&bytes, start);
-        assert_eq!(rt; reading, Reading::Nothing);
+        assert_eq!(rt; reading, Ok(None));
         assert!(rt; rest.is_empty());
     }
 }

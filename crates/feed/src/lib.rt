@@ -57,9 +57,9 @@ fn read_none(part: &[u8], place: usize) -> (Reading, &[u8])
     match *part {
         [kind, ref body @ ..] => {
             let why = refusal_at(kind, body.len(), place);
-            (Reading::Refused(why), &part[part.len()..])
+            (Err(why), &part[part.len()..])
         }
-        [] => (Reading::Nothing, part),
+        [] => (Ok(None), part),
     }
 }
 
@@ -100,12 +100,12 @@ fn read_offer(part: &[u8], place: usize) -> (Reading, &[u8])
             let start = u16::from_be_bytes([s1, s0]);
             let end = u16::from_be_bytes([e1, e0]);
             (
-                Reading::Record(Record::Offer {
+                Ok(Some(Record::Offer {
                     link,
                     start,
                     end,
                     measures,
-                }),
+                })),
                 rest,
             )
         }
@@ -143,7 +143,7 @@ fn read_change(part: &[u8], place: usize) -> (Reading, &[u8])
                 [c3, c2, c1, c0],
             );
             let link = u16::from_be_bytes([l1, l0]);
-            (Reading::Record(Record::Change { link, measures }), rest)
+            (Ok(Some(Record::Change { link, measures })), rest)
         }
         _ => read_none(part, place),
     }
@@ -182,12 +182,12 @@ fn read_quote(part: &[u8], place: usize) -> (Reading, &[u8])
             let source = u16::from_be_bytes([s1, s0]);
             let destination = u16::from_be_bytes([e1, e0]);
             (
-                Reading::Record(Record::Quote {
+                Ok(Some(Record::Quote {
                     card,
                     source,
                     destination,
                     limits,
-                }),
+                })),
                 rest,
             )
         }
@@ -204,20 +204,20 @@ fn read_head(part: &[u8], place: usize) -> (Reading, &[u8])
         [2, ..] => read_change(part, place),
         [3, l1, l0, ref rest @ ..] => {
             let link = u16::from_be_bytes([l1, l0]);
-            (Reading::Record(Record::Withdraw { link }), rest)
+            (Ok(Some(Record::Withdraw { link })), rest)
         }
         [4, ..] => read_quote(part, place),
         [5, k1, k0, ref rest @ ..] => {
             let card = u16::from_be_bytes([k1, k0]);
-            (Reading::Record(Record::Recheck { card }), rest)
+            (Ok(Some(Record::Recheck { card })), rest)
         }
         [6, k1, k0, ref rest @ ..] => {
             let card = u16::from_be_bytes([k1, k0]);
-            (Reading::Record(Record::Discard { card }), rest)
+            (Ok(Some(Record::Discard { card })), rest)
         }
         [7, k1, k0, ref rest @ ..] => {
             let card = u16::from_be_bytes([k1, k0]);
-            (Reading::Record(Record::Read { card }), rest)
+            (Ok(Some(Record::Read { card })), rest)
         }
         _ => read_none(part, place),
     }

@@ -76,17 +76,17 @@ fn record_of(bytes: &[u8], kind: u8) -> Record {
 fn foreseen(bytes: &[u8], place: usize) -> (Reading, usize) {
     let part = &bytes[place.min(bytes.len())..];
     let Some(kind) = part.first().copied() else {
-        return (Reading::Nothing, 0);
+        return (Ok(None), 0);
     };
     let Some(body) = body_of(kind) else {
-        return (Reading::Refused(Refusal::UnknownKind { place }), 0);
+        return (Err(Refusal::UnknownKind { place }), 0);
     };
     let present = part.len() - 1;
     if present < body {
         let missing = body - present;
-        return (Reading::Refused(Refusal::CutShort { place, missing }), 0);
+        return (Err(Refusal::CutShort { place, missing }), 0);
     }
-    (Reading::Record(record_of(part, kind)), present - body)
+    (Ok(Some(record_of(part, kind))), present - body)
 }
 
 // Whether the buffer is unwritten but for the bytes from the place on.
@@ -155,14 +155,14 @@ pub(crate) fn try_bytes(random: &mut Random, tally: &mut Tally) -> Result<(), Di
     }
     count(&mut tally.records);
     match reading {
-        Reading::Record(record) => {
+        Ok(Some(record)) => {
             let end = feed.len() - rest.len();
             try_writing(random, record, &feed[place.min(end)..end], tally)
         }
-        Reading::Refused(why) => {
+        Err(why) => {
             tally.note_refusal(why.number());
             Ok(())
         }
-        Reading::Nothing => Ok(()),
+        Ok(None) => Ok(()),
     }
 }

@@ -1,16 +1,14 @@
 -- What a feed's bytes say, at each way a reading can end.
-use Rattle.std.proofs.Common.{◌≡◌, ℕ, suc, ◌+◌, ◌-◌, ◌<◌, ◌≤◌, min, true, false, leb, List, [], ◌∷◌, length, get_or, take, drop, Some, None, Option, sym, refl, ap, ◌∙◌, ⊎_elim, arith, length-drop}
+use Rattle.std.proofs.Common.{◌≡◌, ℕ, suc, ◌+◌, ◌-◌, ◌<◌, ◌≤◌, min, true, false, leb, List, [], ◌∷◌, length, get_or, take, drop, Some, None, Option, Ok, Err, Result, sym, refl, ap, ◌∙◌, ⊎_elim, arith, length-drop}
 use Rattle.std.proofs.lemmas.Bool.{cases_lt, le-leb, lt-leb}
 use Rattle.std.proofs.lemmas.List.{drop_all, drop-drop, take_rest}
 use Rattle.report.specs.declared.Refusal.{Refusal}
-use Rattle.records.specs.declared.Record.{Record as Rec}
-use Rattle.records.specs.declared.Reading.{Reading}
-use Rattle.records.specs.declared.Reading.TheVariants.{Record, Nothing, Refused}
+use Rattle.records.specs.declared.Record.{Record}
 use Rattle.records.specs.Feed.{body_length, whole, refusal_of, record_of, reading_of, unread_of, after, Reads, Ahead}
 
 -- a whole body, of any kind
-pub reads_record : (bs : List ℕ) (place k n : ℕ) {r : Rec} → get_or bs 0 0 ≡ k → body_length k ≡ Some n → n < length bs → r ≡ record_of k bs
-    → Reads bs place (Record r) (take (length bs - suc n) (drop (suc n) bs))
+pub reads_record : (bs : List ℕ) (place k n : ℕ) {r : Record} → get_or bs 0 0 ≡ k → body_length k ≡ Some n → n < length bs → r ≡ record_of k bs
+    → Reads bs place (Ok (Some r)) (take (length bs - suc n) (drop (suc n) bs))
 unfolding reading_of unread_of
 reads_record [] place k n e b h q = absurd (omega arith)
 reads_record (x ∷ body) place k n e b h q =
@@ -28,7 +26,7 @@ not_whole (Some n) body h = (lt-leb _ _ (h n refl), drop_all n body (omega (arit
 
 pub reads_refused : (bs : List ℕ) (place present : ℕ) {why : Refusal} → length bs ≡ present + 1
     → ((n : ℕ) → body_length (get_or bs 0 0) ≡ Some n → present < n) → why ≡ refusal_of (body_length (get_or bs 0 0)) present place
-    → Reads bs place (Refused why) (take (length bs - length bs) (drop (length bs) bs))
+    → Reads bs place (Err why) (take (length bs - length bs) (drop (length bs) bs))
 unfolding reading_of unread_of
 reads_refused [] place present l h q = absurd (omega arith)
 reads_refused (x ∷ body) place present l h q =
@@ -36,7 +34,7 @@ reads_refused (x ∷ body) place present l h q =
     let f = not_whole (body_length x) body (λ n b. omega (arith, h n b)) in
     (simp (f.0, q, p), none_left (x ∷ body) ∙ sym f.1)
 
-pub reads_nothing : (bs : List ℕ) (place : ℕ) → length bs ≡ 0 → Reads bs place Nothing bs
+pub reads_nothing : (bs : List ℕ) (place : ℕ) → length bs ≡ 0 → Reads bs place (Ok None) bs
 unfolding reading_of unread_of
 reads_nothing [] place e = (refl, refl)
 reads_nothing (x ∷ body) place e = absurd (omega arith)
@@ -53,7 +51,7 @@ after_shorter : (o : Option ℕ) (body : List ℕ) → length (after o body) ≤
 after_shorter None body = omega arith
 after_shorter (Some n) body = simp length-drop (omega arith)
 
-shorter : (bs : List ℕ) (place : ℕ) (r : Rec) → Record r ≡ reading_of bs place → length (unread_of bs) < length bs
+shorter : (bs : List ℕ) (place : ℕ) (r : Record) → Ok (Some r) ≡ reading_of bs place → length (unread_of bs) < length bs
 unfolding reading_of unread_of
 shorter [] place r e = let z : ◌≡◌ {A = ℕ} 0 1 = cc in absurd (omega arith)
 shorter (x ∷ body) place r e = omega (arith, after_shorter (body_length x) body)
@@ -89,8 +87,8 @@ reads_placed input start rest u =
 pub reads_within : (input : List ℕ) (start : ℕ) (rest : List ℕ) → rest ≡ unread_of (drop start input) → length rest ≤ length input
 reads_within input start rest u = omega (arith, unread_within (drop start input), length-drop start input, ap length u)
 
-pub reads_ahead : (input : List ℕ) (start : ℕ) (reading : Reading) (rest : List ℕ)
+pub reads_ahead : (input : List ℕ) (start : ℕ) (reading : Result (Option Record) Refusal) (rest : List ℕ)
     → reading ≡ reading_of (drop start input) start → rest ≡ unread_of (drop start input) → Ahead reading (start + length rest) (length input)
-reads_ahead input start (Record r) rest e u = omega (arith, shorter (drop start input) start r e, length-drop start input, ap length u)
-reads_ahead input start Nothing rest e u = tt
-reads_ahead input start (Refused why) rest e u = tt
+reads_ahead input start (Ok (Some r)) rest e u = omega (arith, shorter (drop start input) start r e, length-drop start input, ap length u)
+reads_ahead input start (Ok None) rest e u = tt
+reads_ahead input start (Err why) rest e u = tt

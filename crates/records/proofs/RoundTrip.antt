@@ -5,10 +5,8 @@ use Rattle.std.proofs.lemmas.Nat.{shr-shr}
 use Rattle.std.proofs.lemmas.Bool.{cases_lt, cases_eq, ne_eqb}
 use Rattle.report.specs.declared.Refusal.{Refusal}
 use Rattle.records.specs.declared.Measures.{Measures}
-use Rattle.records.specs.declared.Record.{Record as Rec}
+use Rattle.records.specs.declared.Record.{Record}
 use Rattle.records.specs.declared.Record.TheVariants.{Offer, Change, Withdraw, Quote, Recheck, Discard, Read}
-use Rattle.records.specs.declared.Reading.{Reading}
-use Rattle.records.specs.declared.Reading.TheVariants.{Record, Nothing, Refused}
 use Rattle.report.specs.Buffers.{Put}
 use Rattle.records.specs.Feed.{body_length, number16, number32, measures_at, record_of, reading_of, unread_of, Reads}
 use Rattle.records.specs.Write.{bytes16, bytes32, measures_bytes, encode, Fit, FitMeasures}
@@ -48,20 +46,20 @@ measures_back m f = same_measures m (back32 m.delay f.0) (back32 m.price f.1) (b
 pub same_change : {l l' : ℕ} {m m' : Measures} → l ≡ l' → m ≡ m' → Change l m ≡ Change l' m'
 same_change p q = cc
 
-pub same_long : (make : ℕ → ℕ → ℕ → Measures → Rec) {a a' b b' c c' : ℕ} {m m' : Measures}
+pub same_long : (make : ℕ → ℕ → ℕ → Measures → Record) {a a' b b' c c' : ℕ} {m m' : Measures}
     → a ≡ a' → b ≡ b' → c ≡ c' → m ≡ m' → make a b c m ≡ make a' b' c' m'
 same_long make p q r s = cc
 
 -- the bytes of a record of any kind: the kind, and a body of the kind's length
-back : (r : Rec) (rest : List ℕ) (place k n : ℕ)
+back : (r : Record) (rest : List ℕ) (place k n : ℕ)
     → get_or (encode r ++ rest) 0 0 ≡ k → body_length k ≡ Some n → n < length (encode r ++ rest)
     → drop (suc n) (encode r ++ rest) ≡ rest → r ≡ record_of k (encode r ++ rest)
-    → (reading_of (encode r ++ rest) place ≡ Record r) × (unread_of (encode r ++ rest) ≡ rest)
+    → (reading_of (encode r ++ rest) place ≡ Ok (Some r)) × (unread_of (encode r ++ rest) ≡ rest)
 back r rest place k n e b h d q =
     let s = reads_record (encode r ++ rest) place k n e b h q in (sym s.0, sym s.1 ∙ take_rest (encode r ++ rest) (suc n) ∙ d)
 
 -- a record's bytes read back as that record, and what follows them is left
-reads_back : (r : Rec) (rest : List ℕ) (place : ℕ) → Fit r → (reading_of (encode r ++ rest) place ≡ Record r) × (unread_of (encode r ++ rest) ≡ rest)
+reads_back : (r : Record) (rest : List ℕ) (place : ℕ) → Fit r → (reading_of (encode r ++ rest) place ≡ Ok (Some r)) × (unread_of (encode r ++ rest) ≡ rest)
 unfolding record_of
 reads_back (Offer l s e m) rest place f =
     back (Offer l s e m) rest place 1 18 refl refl (omega arith) refl (same_long Offer (back16 l f.0) (back16 s f.1) (back16 e f.2) (measures_back m f.3))
@@ -141,7 +139,7 @@ split_long bs k by e h =
     ∙ ap (λ xs. bytes16 (number16 bs 5) ++ xs) (split_measures bs 7 by (omega arith)))))
 
 -- a record is not read where its body is cut short or its kind unknown
-refused : {A : Type 0} (bs : List ℕ) (place : ℕ) (r : Rec) → reading_of bs place ≡ Record r → 0 < length bs → ((n : ℕ) → body_length (get_or bs 0 0) ≡ Some n → length bs ≤ n) → A
+refused : {A : Type 0} (bs : List ℕ) (place : ℕ) (r : Record) → reading_of bs place ≡ Ok (Some r) → 0 < length bs → ((n : ℕ) → body_length (get_or bs 0 0) ≡ Some n → length bs ≤ n) → A
 refused bs place r o h short =
     let e = (reads_refused bs place (length bs - 1) (omega arith) (λ n b. omega (arith, short n b)) refl).0 in
     let z : ◌≡◌ {A = ℕ} 0 1 = cc in absurd (omega arith)
@@ -153,8 +151,8 @@ none_some : {A : Type 0} (o : Option ℕ) {n : ℕ} → o ≡ None → o ≡ Som
 none_some o p q = let z : ◌≡◌ {A = ℕ} 0 1 = cc in absurd (omega arith)
 
 -- a record of any kind, if a whole body of the kind is written as it was read
-forth : (bs : List ℕ) (place : ℕ) (r : Rec) (k n : ℕ)
-    → reading_of bs place ≡ Record r → 0 < length bs → get_or bs 0 0 ≡ k → body_length k ≡ Some n
+forth : (bs : List ℕ) (place : ℕ) (r : Record) (k n : ℕ)
+    → reading_of bs place ≡ Ok (Some r) → 0 < length bs → get_or bs 0 0 ≡ k → body_length k ≡ Some n
     → (n < length bs → bs ≡ encode (record_of k bs) ++ drop (suc n) bs)
     → bs ≡ encode r ++ unread_of bs
 forth bs place r k n o h e b w =
@@ -170,7 +168,7 @@ forth bs place r k n o h e b w =
 either : {A : Type 0} (k i : ℕ) → (k ≡ i → A) → (eqb k i ≡ false → A) → A
 either k i same other = ⊎_elim same (λ n. other (ne_eqb k i n)) (cases_eq k i)
 
-by_kind : (bs : List ℕ) (place : ℕ) (r : Rec) (k : ℕ) → Bytes bs → reading_of bs place ≡ Record r → 0 < length bs → get_or bs 0 0 ≡ k → bs ≡ encode r ++ unread_of bs
+by_kind : (bs : List ℕ) (place : ℕ) (r : Record) (k : ℕ) → Bytes bs → reading_of bs place ≡ Ok (Some r) → 0 < length bs → get_or bs 0 0 ≡ k → bs ≡ encode r ++ unread_of bs
 unfolding record_of
 by_kind bs place r k by o h e =
     either k 1 (λ i. forth bs place r 1 18 o h (e ∙ i) refl (split_long bs 1 by (e ∙ i))) (λ n1.
@@ -184,13 +182,13 @@ by_kind bs place r k by o h e =
     refused bs place r o h (λ m b. none_some (body_length (get_or bs 0 0)) (ap body_length e ∙ none) b))))))))
 
 -- a record that was read has the bytes that it was read from
-writes_back : (bytes : List ℕ) (place : ℕ) (r : Rec) → Bytes bytes → reading_of bytes place ≡ Record r → bytes ≡ encode r ++ unread_of bytes
+writes_back : (bytes : List ℕ) (place : ℕ) (r : Record) → Bytes bytes → reading_of bytes place ≡ Ok (Some r) → bytes ≡ encode r ++ unread_of bytes
 writes_back [] place r by o =
     let e = (reads_nothing [] place refl).0 in let z : ◌≡◌ {A = ℕ} 0 1 = cc in absurd (omega arith)
 writes_back (x ∷ body) place r by o = by_kind (x ∷ body) place r x by o (omega arith) refl
 
 -- what stands in the buffer after a write reads back
-pub put_reads_back : (r : Rec) (start : ℕ) (was is : List ℕ) (answer : Result ℕ Refusal)
+pub put_reads_back : (r : Record) (start : ℕ) (was is : List ℕ) (answer : Result ℕ Refusal)
     → Fit r → Put (encode r) start was is answer → ReadsBack r start is answer
 put_reads_back r start was is (Err why) f p = tt
 put_reads_back r start was is (Ok next) f p =
@@ -204,20 +202,20 @@ put_reads_back r start was is (Ok next) f p =
     (ap (λ xs. reading_of xs start) d ∙ back.0, ap unread_of d ∙ back.1 ∙ sym t)
 
 -- what is put as the bytes of a record whose numbers fit is written
-pub written : (r : Rec) (start : ℕ) (was is : List ℕ) (answer : Result ℕ Refusal) {bytes : List ℕ}
+pub written : (r : Record) (start : ℕ) (was is : List ℕ) (answer : Result ℕ Refusal) {bytes : List ℕ}
     → bytes ≡ encode r → Fit r → Put bytes start was is answer → Written r start was is answer
 written r start was is answer e f p =
     let q : Put (encode r) start was is answer = subst (λ (xs : List ℕ). Put xs start was is answer) e p in
     record { fit = f; put = q; reads_back = put_reads_back r start was is answer f q }
 
 -- what was read is written as the same bytes
-pub read_writes_back : (reading : Reading) (bytes rest : List ℕ) (place : ℕ) → Bytes bytes → reading ≡ reading_of bytes place → rest ≡ unread_of bytes → WritesBack reading bytes rest
-read_writes_back (Record r) bytes rest place by e f = writes_back bytes place r by (sym e) ∙ ap (λ xs. encode r ++ xs) (sym f)
-read_writes_back Nothing bytes rest place by e f = tt
-read_writes_back (Refused why) bytes rest place by e f = tt
+pub read_writes_back : (reading : Result (Option Record) Refusal) (bytes rest : List ℕ) (place : ℕ) → Bytes bytes → reading ≡ reading_of bytes place → rest ≡ unread_of bytes → WritesBack reading bytes rest
+read_writes_back (Ok (Some r)) bytes rest place by e f = writes_back bytes place r by (sym e) ∙ ap (λ xs. encode r ++ xs) (sym f)
+read_writes_back (Ok None) bytes rest place by e f = tt
+read_writes_back (Err why) bytes rest place by e f = tt
 
 -- a reading of a part, whose numbers are bytes, is one of every feed that has this part
-pub reads_part : {part : List ℕ} {place : ℕ} {reading : Reading} {rest : List ℕ}
+pub reads_part : {part : List ℕ} {place : ℕ} {reading : Result (Option Record) Refusal} {rest : List ℕ}
     → ((i : ℕ) → Fits w8 (get_or part i 0)) → Reads part place reading rest → ReadsPart part place reading rest
 reads_part {part} {place} {reading} {rest} fits r =
     record {

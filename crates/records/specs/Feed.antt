@@ -1,12 +1,10 @@
 -- What a feed's bytes say. A record is one byte of kind, and then a body whose length the kind fixes; numbers are big-endian.
-use Rattle.std.specs.Prelude.{◌≡◌, ℕ, ◌+◌, ◌-◌, ◌*◌, ◌<◌, Bool, false, cond, List, [], ◌∷◌, length, drop, Some, None, Option, ◌==◌, nat_le, slice_index}
+use Rattle.std.specs.Prelude.{◌≡◌, ℕ, ◌+◌, ◌-◌, ◌*◌, ◌<◌, Bool, false, cond, List, [], ◌∷◌, length, drop, Some, None, Option, Ok, Err, Result, ◌==◌, nat_le, slice_index}
 use Rattle.report.specs.declared.Refusal.{Refusal}
 use Rattle.report.specs.declared.Refusal.TheVariants.{UnknownKind, CutShort}
 use Rattle.records.specs.declared.Measures.{Measures}
-use Rattle.records.specs.declared.Record.{Record as Rec}
+use Rattle.records.specs.declared.Record.{Record}
 use Rattle.records.specs.declared.Record.TheVariants.{Offer, Change, Withdraw, Quote, Recheck, Discard, Read}
-use Rattle.records.specs.declared.Reading.{Reading}
-use Rattle.records.specs.declared.Reading.TheVariants.{Record, Nothing, Refused}
 
 -- how many bytes the body of a kind has; none if it is the kind of no record
 abbrev pub body_length : ℕ → Option ℕ
@@ -33,7 +31,7 @@ abbrev pub measures_at : List ℕ → ℕ → Measures
 measures_at bytes i = record { delay = number32 bytes i; price = number32 bytes (i + 4); class = number32 bytes (i + 8) }
 
 -- the record of a known kind; the kind stands at place 0, and the body from place 1 on
-unfoldable pub record_of : ℕ → List ℕ → Rec
+unfoldable pub record_of : ℕ → List ℕ → Record
 record_of kind bytes =
     cond (kind == 1) (Offer (number16 bytes 1) (number16 bytes 3) (number16 bytes 5) (measures_at bytes 7))
     (cond (kind == 2) (Change (number16 bytes 1) (measures_at bytes 3))
@@ -54,10 +52,10 @@ refusal_of None present place = UnknownKind place
 refusal_of (Some n) present place = CutShort place (n - present)
 
 -- what the bytes say: nothing where there are none; the first of them, the kind, stands at the place
-unfoldable pub reading_of : List ℕ → ℕ → Reading
-reading_of [] place = Nothing
+unfoldable pub reading_of : List ℕ → ℕ → Result (Option Record) Refusal
+reading_of [] place = Ok None
 reading_of (kind ∷ body) place =
-    cond (whole (body_length kind) body) (Record (record_of kind (kind ∷ body))) (Refused (refusal_of (body_length kind) (length body) place))
+    cond (whole (body_length kind) body) (Ok (Some (record_of kind (kind ∷ body)))) (Err (refusal_of (body_length kind) (length body) place))
 
 -- what follows the body
 abbrev pub after : Option ℕ → List ℕ → List ℕ
@@ -70,11 +68,11 @@ unread_of [] = []
 unread_of (kind ∷ body) = after (body_length kind) body
 
 -- the reading, and what it leaves unread
-abbrev pub Reads : List ℕ → ℕ → Reading → List ℕ → Type 0
+abbrev pub Reads : List ℕ → ℕ → Result (Option Record) Refusal → List ℕ → Type 0
 Reads bytes place reading rest = (reading ≡ reading_of bytes place) × (rest ≡ unread_of bytes)
 
 -- where a record is read, the first number is below the second
-abbrev pub Ahead : Reading → ℕ → ℕ → Type 0
-Ahead (Record it) m n = m < n
-Ahead Nothing m n = Unit {0}
-Ahead (Refused why) m n = Unit {0}
+abbrev pub Ahead : Result (Option Record) Refusal → ℕ → ℕ → Type 0
+Ahead (Ok (Some it)) m n = m < n
+Ahead (Ok None) m n = Unit {0}
+Ahead (Err why) m n = Unit {0}

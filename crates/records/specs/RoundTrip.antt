@@ -1,26 +1,24 @@
 -- Reading undoes writing, and writing undoes reading.
-use Rattle.std.specs.Prelude.{◌≡◌, ℕ, ◌+◌, ◌-◌, ◌≤◌, List, ◌++◌, length, drop, IfOk, Result}
+use Rattle.std.specs.Prelude.{◌≡◌, ℕ, ◌+◌, ◌-◌, ◌≤◌, List, ◌++◌, length, drop, Some, None, Option, Ok, Err, IfOk, Result}
 use Rattle.report.specs.declared.Refusal.{Refusal}
 use Rattle.report.specs.Buffers.{Put}
-use Rattle.records.specs.declared.Record.{Record as Rec}
-use Rattle.records.specs.declared.Reading.{Reading}
-use Rattle.records.specs.declared.Reading.TheVariants.{Record, Nothing, Refused}
+use Rattle.records.specs.declared.Record.{Record}
 use Rattle.records.specs.Feed.{reading_of, unread_of, Ahead}
 use Rattle.records.specs.Write.{encode, Fit}
 
 -- what a buffer holds after a write reads back as the record from the start place on, and what followed it is left
-abbrev pub ReadsBack : Rec → ℕ → List ℕ → Result ℕ Refusal → Type 0
+abbrev pub ReadsBack : Record → ℕ → List ℕ → Result ℕ Refusal → Type 0
 ReadsBack r start buffer answer =
-    IfOk answer (λ next. (reading_of (drop start buffer) start ≡ Record r) × (unread_of (drop start buffer) ≡ drop next buffer))
+    IfOk answer (λ next. (reading_of (drop start buffer) start ≡ Ok (Some r)) × (unread_of (drop start buffer) ≡ drop next buffer))
 
 -- a record that was read is written as the bytes that it was read from, which end where the rest begins
-abbrev pub WritesBack : Reading → List ℕ → List ℕ → Type 0
-WritesBack (Record r) bytes rest = bytes ≡ encode r ++ rest
-WritesBack Nothing bytes rest = Unit {0}
-WritesBack (Refused why) bytes rest = Unit {0}
+abbrev pub WritesBack : Result (Option Record) Refusal → List ℕ → List ℕ → Type 0
+WritesBack (Ok (Some r)) bytes rest = bytes ≡ encode r ++ rest
+WritesBack (Ok None) bytes rest = Unit {0}
+WritesBack (Err why) bytes rest = Unit {0}
 
 -- the reading of a part of a feed, and what it leaves unread; of every feed that has this part from the place on, the last three hold too
-pub record ReadsPart (part : List ℕ) (place : ℕ) (reading : Reading) (rest : List ℕ) : Type 0 where
+pub record ReadsPart (part : List ℕ) (place : ℕ) (reading : Result (Option Record) Refusal) (rest : List ℕ) : Type 0 where
   pub reads : reading ≡ reading_of part place
   pub leaves : rest ≡ unread_of part
   pub writes_back : WritesBack reading part rest
@@ -29,7 +27,7 @@ pub record ReadsPart (part : List ℕ) (place : ℕ) (reading : Reading) (rest :
   pub ahead : (input : List ℕ) → part ≡ drop place input → Ahead reading (place + length rest) (length input)
 
 -- the record's bytes are put into the buffer from the start place on, and read back, since its numbers fit their widths
-pub record Written (r : Rec) (start : ℕ) (was is : List ℕ) (answer : Result ℕ Refusal) : Type 0 where
+pub record Written (r : Record) (start : ℕ) (was is : List ℕ) (answer : Result ℕ Refusal) : Type 0 where
   pub fit : Fit r
   pub put : Put (encode r) start was is answer
   pub reads_back : ReadsBack r start is answer

@@ -1,7 +1,7 @@
 -- A record's bytes.
 use Rattle.std.specs.Prelude.{ℕ, ◌/◌, ◌%◌, ◌^◌, ◌<◌, List, [], ◌∷◌, ◌++◌}
 use Rattle.records.specs.declared.Measures.{Measures}
-use Rattle.records.specs.declared.Record.{Record as Rec}
+use Rattle.records.specs.declared.Record.{Record}
 use Rattle.records.specs.declared.Record.TheVariants.{Offer, Change, Withdraw, Quote, Recheck, Discard, Read}
 
 -- the bytes of a number of 16 bits
@@ -17,7 +17,7 @@ abbrev pub measures_bytes : Measures → List ℕ
 measures_bytes m = bytes32 m.delay ++ (bytes32 m.price ++ bytes32 m.class)
 
 -- the bytes of a record: its kind, then its body
-abbrev pub encode : Rec → List ℕ
+abbrev pub encode : Record → List ℕ
 encode (Offer link start end m) = 1 ∷ (bytes16 link ++ (bytes16 start ++ (bytes16 end ++ measures_bytes m)))
 encode (Change link m) = 2 ∷ (bytes16 link ++ measures_bytes m)
 encode (Withdraw link) = 3 ∷ bytes16 link
@@ -31,7 +31,7 @@ abbrev pub FitMeasures : Measures → Type 0
 FitMeasures m = (m.delay < 2 ^ 32) × (m.price < 2 ^ 32) × (m.class < 2 ^ 32)
 
 -- the numbers of a record fit their widths
-abbrev pub Fit : Rec → Type 0
+abbrev pub Fit : Record → Type 0
 Fit (Offer link start end m) = (link < 2 ^ 16) × (start < 2 ^ 16) × (end < 2 ^ 16) × FitMeasures m
 Fit (Change link m) = (link < 2 ^ 16) × FitMeasures m
 Fit (Withdraw link) = link < 2 ^ 16

@@ -52,11 +52,5 @@ pub enum Record {
     },
 }
 
-// What a place of a feed holds.
-#[derive(Clone, Copy, PartialEq, Eq, Debug)]
-pub enum Reading {
-    Record(Record),
-    // The place is at the feed's end or past it.
-    Nothing,
-    Refused(Refusal),
-}
+// What a place of a feed holds: a record, or nothing at the feed's end and past it, or why what stands there is not read.
+pub type Reading = Result<Option<Record>, Refusal>;

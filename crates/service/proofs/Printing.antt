@@ -1,9 +1,8 @@
 -- What is printed of a feed, record by record.
-use Rattle.std.proofs.Common.{◌≡◌, ℕ, ◌+◌, ◌-◌, List, ◌++◌, length, take, drop, min, Ok, Err, Option, Result, IsErrAnd, inl, inr, refl, ap, ◌∙◌, sym, subst}
+use Rattle.std.proofs.Common.{◌≡◌, ℕ, ◌+◌, ◌-◌, List, ◌++◌, length, take, drop, min, Some, Ok, Err, Option, Result, IsErrAnd, inl, inr, refl, ap, ◌∙◌, sym, subst}
 use Rattle.std.proofs.KnownBytes.{Appends-trans}
 use Rattle.std.specs.Io.KnownBytes.{Appends}
-use Rattle.records.specs.declared.Record.{Record as Rec}
-use Rattle.records.specs.declared.Reading.TheVariants.{Record}
+use Rattle.records.specs.declared.Record.{Record}
 use Rattle.records.specs.Feed.{reading_of, unread_of}
 use Rattle.cards.specs.declared.Reply.{Reply}
 use Rattle.cards.specs.Runs.{Memory, Lent}
@@ -21,8 +20,8 @@ line_cut number p q n m i xs pq nm e =
     ap (λ (x : Printed). line_of number x (take (i - 0) xs)) pq ∙ ap (λ (x : List ℕ). line_of number q x) (take_min n i xs e ∙ ap (λ (x : ℕ). take x xs) nm)
 
 -- a record that was read and served is the next
-pub next_served : {feed : List ℕ} {room : Room} {before after : Memory TrunkValue TrunkLimits} {number start : ℕ} {l l' : Lent TrunkValue} {r : Rec} {reply : Reply TrunkValue} →
-    reading_of (drop start feed) start ≡ Record r → Lends room l → Served before l r room.k reply after l' →
+pub next_served : {feed : List ℕ} {room : Room} {before after : Memory TrunkValue TrunkLimits} {number start : ℕ} {l l' : Lent TrunkValue} {r : Record} {reply : Reply TrunkValue} →
+    reading_of (drop start feed) start ≡ Ok (Some r) → Lends room l → Served before l r room.k reply after l' →
     ServesNext feed room number start before (line_for (number + 1) reply l'.reply) after
 next_served {l = l} {l' = l'} {r = r} {reply = reply} is lends served =
     record { it = r; reply = reply; brought = l; left = l'; reads = is; lends = lends; serves = served; prints = refl }

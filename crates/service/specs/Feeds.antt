@@ -1,8 +1,7 @@
 -- What is printed of a feed.
-use Rattle.std.specs.Prelude.{◌≡◌, ℕ, ◌+◌, ◌-◌, ◌<◌, ◌⊎◌, Ok, Err, Result, List, [], ◌++◌, length, take, drop, Option}
+use Rattle.std.specs.Prelude.{◌≡◌, ℕ, ◌+◌, ◌-◌, ◌<◌, ◌⊎◌, Ok, Err, Result, List, [], ◌++◌, length, take, drop, Some, None, Option}
 use Rattle.std.specs.Io.KnownBytes.{Appends}
-use Rattle.records.specs.declared.Record.{Record as Rec}
-use Rattle.records.specs.declared.Reading.TheVariants.{Record, Nothing, Refused}
+use Rattle.records.specs.declared.Record.{Record}
 use Rattle.records.specs.Feed.{reading_of, unread_of}
 use Rattle.report.specs.declared.Refusal.{Refusal}
 use Rattle.report.specs.declared.Refusal.TheVariants.{BufferTooShort}
@@ -31,7 +30,7 @@ PrintsLine line was is (Ok done) = Appends was is line
 PrintsLine line was is (Err error) = Unwritten line was is error
 
 -- the record is served, whatever becomes of its line
-abbrev pub PrintsRecord : Memory TrunkValue TrunkLimits → Lent TrunkValue → ℕ → Rec → ℕ → Option (List ℕ) → Option (List ℕ) → Memory TrunkValue TrunkLimits → Lent TrunkValue → Result (Unit {0}) ServiceError → Type 0
+abbrev pub PrintsRecord : Memory TrunkValue TrunkLimits → Lent TrunkValue → ℕ → Record → ℕ → Option (List ℕ) → Option (List ℕ) → Memory TrunkValue TrunkLimits → Lent TrunkValue → Result (Unit {0}) ServiceError → Type 0
 PrintsRecord m l number r k was is m' l' answer =
     (reply : Reply TrunkValue) × Served m l r k reply m' l' × PrintsLine (line_for number reply l'.reply) was is answer
 
@@ -53,11 +52,11 @@ pub record Lends (room : Room) (l : Lent TrunkValue) : Type 0 where
 -- The next record of the feed, which begins at the place, was served with so much lent to its call: its line, and the memory after it. It
 -- comes after so many others.
 pub record ServesNext (feed : List ℕ) (room : Room) (number start : ℕ) (before : Memory TrunkValue TrunkLimits) (line : List ℕ) (after : Memory TrunkValue TrunkLimits) : Type 0 where
-  pub it : Rec
+  pub it : Record
   pub reply : Reply TrunkValue
   pub brought : Lent TrunkValue
   pub left : Lent TrunkValue
-  pub reads : reading_of (drop start feed) start ≡ Record it
+  pub reads : reading_of (drop start feed) start ≡ Ok (Some it)
   pub lends : Lends room brought
   pub serves : Served before brought it room.k reply after left
   pub prints : line ≡ line_for (number + 1) reply left.reply
@@ -65,7 +64,7 @@ pub record ServesNext (feed : List ℕ) (room : Room) (number start : ℕ) (befo
 -- what begins at the place cannot be read, and this is its line
 pub record Unreadable (feed : List ℕ) (number start : ℕ) (line : List ℕ) : Type 0 where
   pub why : Refusal
-  pub reads : reading_of (drop start feed) start ≡ Refused why
+  pub reads : reading_of (drop start feed) start ≡ Err why
   pub prints : line ≡ line_of (number + 1) (LineVariants.Refused why) []
 
 -- So many records of the feed were served, one after the other: where the next one starts, the lines of those that were served, and the
@@ -79,7 +78,7 @@ pub data ServesFirst (feed : List ℕ) (room : Room) (m : Memory TrunkValue Trun
 -- The lines of a whole feed, and the memory after it: it ends with its last record, or with the line of one that cannot be read.
 pub data LinesOf (feed : List ℕ) (room : Room) (m : Memory TrunkValue TrunkLimits) : List ℕ → Memory TrunkValue TrunkLimits → Type 0 where
   at_its_end : {number start : ℕ} {lines : List ℕ} {after : Memory TrunkValue TrunkLimits} →
-      ServesFirst feed room m number start lines after → reading_of (drop start feed) start ≡ Nothing → LinesOf feed room m lines after
+      ServesFirst feed room m number start lines after → reading_of (drop start feed) start ≡ Ok None → LinesOf feed room m lines after
   unreadable : {number start : ℕ} {lines line : List ℕ} {after : Memory TrunkValue TrunkLimits} →
       ServesFirst feed room m number start lines after → Unreadable feed number start line → LinesOf feed room m (lines ++ line) after
 

@@ -8,7 +8,7 @@ ghost use Rattle.service.specs.Feeds.{PrintsLine, PrintsRecord, PrintsFeed, room
 
 use crate::{ServiceError, print, serve};
 use catalogue::Catalogue;
-use feed::{Reading, Record, read_record};
+use feed::{Record, read_record};
 use labels::Label;
 use line::{Reply as Printed, write_line};
 use measure::pair::{Trunk, TrunkLimit};
@@ -71,12 +71,12 @@ pub fn serve_feed<W: Write>(
         let number = turn + 1;
         let (reading, rest) = read_record(feed, start);
         match reading {
-            Reading::Record(record) => {
+            Ok(Some(record)) => {
                 start = feed.len() - rest.len();
                 serve_record(out, number, catalogue, book, labels, k, reply, record)?;
             }
-            Reading::Nothing => return Ok(()),
-            Reading::Refused(why) => return print_line(out, number, Printed::Refused(why), &[]),
+            Ok(None) => return Ok(()),
+            Err(why) => return print_line(out, number, Printed::Refused(why), &[]),
         }
     }
     Ok(())

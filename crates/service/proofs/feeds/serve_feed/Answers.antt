@@ -1,4 +1,4 @@
-use Rattle.std.proofs.Common.{ℕ, ◌+◌, ◌<◌, [], length, drop, length-drop, refl, sym, subst, ◌∙◌, arith}
+use Rattle.std.proofs.Common.{ℕ, ◌+◌, ◌<◌, [], length, drop, Some, None, Ok, ◌≡◌, length-drop, refl, sym, subst, ◌∙◌, arith, rules}
 use Rattle.records.specs.Feed.{Ahead}
 use Rattle.records.proofs.Readings.{reads_nothing}
 use Rattle.service.specs.Feeds.{none_served, at_its_end}
@@ -15,39 +15,42 @@ loop-turn-init g c = record {
   served = ([], none_served, Appends-nil (g.W.Write.contents c.args.out.now));
 }
 
-pub returns-in-Nothing-clause-printed : goal.returns-in-Nothing-clause-printed
-returns-in-Nothing-clause-printed g c =
+pub returns-in-Ok-None-clause-printed : goal.returns-in-Ok-None-clause-printed
+returns-in-Ok-None-clause-printed g c =
     let s = c.loop-turn.invariant.served in
-    (s.0, at_its_end s.1 (sym c.read_record-reading.ensures.reading ∙ c.in-Nothing.is), s.2)
+    let is : c.read_record-reading.result.0 ≡ Ok None = search rules in
+    (s.0, at_its_end s.1 (sym c.read_record-reading.ensures.reading ∙ is), s.2)
 
-pub returns-in-Refused-clause-printed : goal.returns-in-Refused-clause-printed
-returns-in-Refused-clause-printed g c =
+pub returns-in-Err-clause-printed : goal.returns-in-Err-clause-printed
+returns-in-Err-clause-printed g c =
     let s = c.loop-turn.invariant.served in
     printed_last _ _ _ _ _ s.1 s.2 c.print_line.result
-    (record { why = c.in-Refused.why; reads = sym c.read_record-reading.ensures.reading ∙ c.in-Refused.is; prints = refl }) c.print_line.ensures
+    (record { why = c.in-Err.why; reads = sym c.read_record-reading.ensures.reading ∙ c.in-Err.is; prints = refl }) c.print_line.ensures
 
-pub returns-in_err-serve_record-in-Record-clause-printed : goal.returns-in_err-serve_record-in-Record-clause-printed
-returns-in_err-serve_record-in-Record-clause-printed g c =
+pub returns-in_err-serve_record-in-Ok-Some-clause-printed : goal.returns-in_err-serve_record-in-Ok-Some-clause-printed
+returns-in_err-serve_record-in-Ok-Some-clause-printed g c =
     let s = c.loop-turn.invariant.served in
     let (reply, served, printed) = c.serve_record.ensures.printed in
-    broke_off _ _ _ _ _ s.1 s.2 c.serve_record.result c.from_residual.result _ c.in_err-serve_record-in-Record.was c.from_residual.ensures.1
-    (next_served (sym c.read_record-reading.ensures.reading ∙ c.in-Record.is) (record { labels = omega arith; numbers = omega arith }) served) printed
+    let is : c.read_record-reading.result.0 ≡ Ok (Some c.in-Ok-Some.record) = search rules in
+    broke_off _ _ _ _ _ s.1 s.2 c.serve_record.result c.from_residual.result _ c.in_err-serve_record-in-Ok-Some.was c.from_residual.ensures.1
+    (next_served (sym c.read_record-reading.ensures.reading ∙ is) (record { labels = omega arith; numbers = omega arith }) served) printed
 
 pub loop-turn-preserved : goal.loop-turn-preserved
 loop-turn-preserved g c =
     let s = c.loop-turn.invariant.served in
-    let (reply, served, wrote) = c.in_ok-serve_record-in-Record.ensures.printed in
+    let (reply, served, wrote) = c.in_ok-serve_record-in-Ok-Some.ensures.printed in
     let rest = c.read_record-reading.result.1.now in
+    let is : c.read_record-reading.result.0 ≡ Ok (Some c.in-Ok-Some.record) = search rules in
     let ahead : c.loop-turn.start + length rest < length c.args.feed.now =
-    subst (λ x. Ahead x (c.loop-turn.start + length rest) (length c.args.feed.now)) c.in-Record.is c.read_record-reading.ensures.ahead in
+    subst (λ x. Ahead x (c.loop-turn.start + length rest) (length c.args.feed.now)) is c.read_record-reading.ensures.ahead in
     record {
-      links = c.in_ok-serve_record-in-Record.ensures.links ∙ c.loop-turn.invariant.links;
-      places = (c.in_ok-serve_record-in-Record.ensures.places.0 ∙ c.loop-turn.invariant.places.0, c.in_ok-serve_record-in-Record.ensures.places.1 ∙ c.loop-turn.invariant.places.1);
+      links = c.in_ok-serve_record-in-Ok-Some.ensures.links ∙ c.loop-turn.invariant.links;
+      places = (c.in_ok-serve_record-in-Ok-Some.ensures.places.0 ∙ c.loop-turn.invariant.places.0, c.in_ok-serve_record-in-Ok-Some.ensures.places.1 ∙ c.loop-turn.invariant.places.1);
       within = omega arith;
       ahead = omega arith;
       served = (
         _,
-        served_more rest s.1 (next_served (sym c.read_record-reading.ensures.reading ∙ c.in-Record.is) (record { labels = omega arith; numbers = omega arith }) served) c.read_record-reading.ensures.rest,
+        served_more rest s.1 (next_served (sym c.read_record-reading.ensures.reading ∙ is) (record { labels = omega arith; numbers = omega arith }) served) c.read_record-reading.ensures.rest,
         Appends-trans _ _ _ _ _ s.2 wrote,
       );
     }
