@@ -30,7 +30,8 @@ impl Word {
     }
 }
 
-// Puts the words and then the legs into a sink, each after one space.
+// Puts the words and then the legs into a sink, each after one space. One `for` over the chain of the two got no proof:
+// in a function with a type parameter the check refuses its own statement of what such a chain yields.
 pub(crate) fn put_words<S: Sink>(words: &[Word], legs: &[u16], sink: &mut S)
     ensures { S.took sink.old (flat_map after_space (map spelled words.now ++ map decimal legs.now)) sink.new }
 {
