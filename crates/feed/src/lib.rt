@@ -15,7 +15,7 @@ use report::Refusal;
 
 // The measures from the four bytes of each.
 fn measures_from_bytes(delay: [u8; 4], price: [u8; 4], class: [u8; 4]) -> Measures
-    ensures { (result.delay ≡ number32 delay 0) × (result.price ≡ number32 price 0) × (result.class ≡ number32 class 0) }
+    ensures { result ≡ record { delay = number32 delay 0; price = number32 price 0; class = number32 class 0 } }
 {
     Measures {
         delay: u32::from_be_bytes(delay),
@@ -54,12 +54,12 @@ fn read_none(part: &[u8], place: usize) -> (Reading, &[u8])
     requires { (n : ℕ) → body_length (slice_index part.now 0) ≡ Some n → length part.now ≤ n }
     ensures { ReadsPart part.now place result.0 result.1.now }
 {
-    match *part {
-        [kind, ref body @ ..] => {
-            let why = refusal_at(kind, body.len(), place);
+    match part.split_first() {
+        Some((kind, body)) => {
+            let why = refusal_at(*kind, body.len(), place);
             (Err(why), &part[part.len()..])
         }
-        [] => (Ok(None), part),
+        None => (Ok(None), part),
     }
 }
 
@@ -227,7 +227,7 @@ fn read_head(part: &[u8], place: usize) -> (Reading, &[u8])
 fn part_from(input: &[u8], start: usize) -> &[u8]
     ensures { result.now ≡ drop start input.now }
 {
-    &input[start.min(input.len())..]
+    input.get(start..).unwrap_or_default()
 }
 
 // What the feed holds at the start place, counted from 0, and the part of it that is still to be read: empty where there is no record.

@@ -53,7 +53,7 @@ after_shorter (Some n) body = simp length-drop (omega arith)
 
 shorter : (bs : List ℕ) (place : ℕ) (r : Record) → Ok (Some r) ≡ reading_of bs place → length (unread_of bs) < length bs
 unfolding reading_of unread_of
-shorter [] place r e = let z : ◌≡◌ {A = ℕ} 0 1 = cc in absurd (omega arith)
+shorter [] place r e = absurd cc
 shorter (x ∷ body) place r e = omega (arith, after_shorter (body_length x) body)
 
 -- what is left is never longer than what there was, and after a record it is shorter

@@ -1,7 +1,8 @@
 -- Reading undoes writing, and writing undoes reading.
 use Rattle.std.proofs.Common.{◌≡◌, ℕ, suc, ◌+◌, ◌-◌, ◌*◌, ◌/◌, ◌%◌, ◌^◌, ◌<◌, ◌≤◌, false, eqb, List, [], ◌∷◌, ◌++◌, length, get_or, take, drop, Some, None, Ok, Err, Option, Result, sym, refl, ap, ◌∙◌, subst, ⊎_elim, append_assoc, arith, length-take, drop_at, w8, Fits}
 use Rattle.std.proofs.lemmas.List.{drop_more, take_rest, length-append}
-use Rattle.std.proofs.lemmas.Nat.{shr-shr}
+use Rattle.std.proofs.lemmas.Grind.{common_steps}
+use Rattle.std.proofs.lemmas.Nat.{from_be_bytes-to_be_bytes_2, from_be_bytes-to_be_bytes_4}
 use Rattle.std.proofs.lemmas.Bool.{cases_lt, cases_eq, ne_eqb}
 use Rattle.report.specs.declared.Refusal.{Refusal}
 use Rattle.records.specs.declared.Measures.{Measures}
@@ -10,31 +11,16 @@ use Rattle.records.specs.declared.Record.TheVariants.{Offer, Change, Withdraw, Q
 use Rattle.report.specs.Buffers.{Put}
 use Rattle.records.specs.Feed.{body_length, number16, number32, measures_at, record_of, reading_of, unread_of, Reads}
 use Rattle.records.specs.Write.{bytes16, bytes32, measures_bytes, encode, Fit, FitMeasures}
-use Rattle.records.specs.RoundTrip.{ReadsBack, WritesBack, ReadsPart, Written}
+use Rattle.records.specs.RoundTrip.{ReadsBack, WritesBack, ReadsPart}
 use Rattle.records.proofs.Readings.{reads_record, reads_refused, reads_nothing, reads_placed, reads_within, reads_ahead}
 
 -- a number from its bytes
 
 back16 : (n : ℕ) → n < 2 ^ 16 → n ≡ number16 (bytes16 n) 0
-back16 n h = omega arith
-
-sums : (n a b c x y z w : ℕ) → n ≡ a * 256 + x → a ≡ b * 256 + y → b ≡ c * 256 + z → w ≡ c → n ≡ w * 16777216 + z * 65536 + y * 256 + x
-sums n a b c x y z w e1 e2 e3 e4 = omega arith
-
--- byte by byte: a, b and c are what is left of the number
-steps : (n a b c : ℕ) → a ≡ n / 256 → b ≡ a / 256 → c ≡ b / 256 → n < 2 ^ 32 → n ≡ (c % 256) * 16777216 + (b % 256) * 65536 + (a % 256) * 256 + n % 256
-steps n a b c p q r h =
-    let e1 : n ≡ a * 256 + n % 256 = omega arith in
-    let e2 : a ≡ b * 256 + a % 256 = omega arith in
-    let e3 : b ≡ c * 256 + b % 256 = omega arith in
-    let s1 : a < 2 ^ 24 = omega arith in
-    let s2 : b < 2 ^ 16 = omega arith in
-    let s3 : c < 256 = omega arith in
-    let e4 : c % 256 ≡ c = omega arith in
-    sums n a b c (n % 256) (a % 256) (b % 256) (c % 256) e1 e2 e3 e4
+back16 n h = sym (from_be_bytes-to_be_bytes_2 n h)
 
 back32 : (n : ℕ) → n < 2 ^ 32 → n ≡ number32 (bytes32 n) 0
-back32 n h = steps n (n / 256) (n / 65536) (n / 16777216) refl (sym (shr-shr n 8 8)) (sym (shr-shr n 16 8)) h
+back32 n h = sym (from_be_bytes-to_be_bytes_4 n h)
 
 pub same_measures : (m : Measures) {d p c : ℕ} → m.delay ≡ d → m.price ≡ p → m.class ≡ c → m ≡ record { delay = d; price = p; class = c }
 same_measures m {d} {p} {c} e f g = simp (sym e, sym f, sym g)
@@ -87,12 +73,7 @@ split16 bs i by h =
     cc
 
 digits32 : (a b c d : ℕ) → a < 256 → b < 256 → c < 256 → d < 256 → bytes32 (a * 16777216 + b * 65536 + c * 256 + d) ≡ a ∷ b ∷ c ∷ d ∷ []
-digits32 a b c d p q r s =
-    let h3 : (a * 16777216 + b * 65536 + c * 256 + d) / 16777216 % 256 ≡ a = omega arith in
-    let h2 : (a * 16777216 + b * 65536 + c * 256 + d) / 65536 % 256 ≡ b = omega arith in
-    let h1 : (a * 16777216 + b * 65536 + c * 256 + d) / 256 % 256 ≡ c = omega arith in
-    let h0 : (a * 16777216 + b * 65536 + c * 256 + d) % 256 ≡ d = omega arith in
-    cc
+digits32 a b c d p q r s = grind (arith, common_steps)
 
 split32 : (bs : List ℕ) (i : ℕ) → Bytes bs → i + 3 < length bs → drop i bs ≡ bytes32 (number32 bs i) ++ drop (i + 4) bs
 split32 bs i by h =
@@ -141,14 +122,13 @@ split_long bs k by e h =
 -- a record is not read where its body is cut short or its kind unknown
 refused : {A : Type 0} (bs : List ℕ) (place : ℕ) (r : Record) → reading_of bs place ≡ Ok (Some r) → 0 < length bs → ((n : ℕ) → body_length (get_or bs 0 0) ≡ Some n → length bs ≤ n) → A
 refused bs place r o h short =
-    let e = (reads_refused bs place (length bs - 1) (omega arith) (λ n b. omega (arith, short n b)) refl).0 in
-    let z : ◌≡◌ {A = ℕ} 0 1 = cc in absurd (omega arith)
+    let e = (reads_refused bs place (length bs - 1) (omega arith) (λ n b. omega (arith, short n b)) refl).0 in absurd cc
 
 some_same : (o : Option ℕ) {m n : ℕ} → o ≡ Some m → o ≡ Some n → m ≡ n
 some_same o p q = cc
 
 none_some : {A : Type 0} (o : Option ℕ) {n : ℕ} → o ≡ None → o ≡ Some n → A
-none_some o p q = let z : ◌≡◌ {A = ℕ} 0 1 = cc in absurd (omega arith)
+none_some o p q = absurd cc
 
 -- a record of any kind, if a whole body of the kind is written as it was read
 forth : (bs : List ℕ) (place : ℕ) (r : Record) (k n : ℕ)
@@ -184,7 +164,7 @@ by_kind bs place r k by o h e =
 -- a record that was read has the bytes that it was read from
 writes_back : (bytes : List ℕ) (place : ℕ) (r : Record) → Bytes bytes → reading_of bytes place ≡ Ok (Some r) → bytes ≡ encode r ++ unread_of bytes
 writes_back [] place r by o =
-    let e = (reads_nothing [] place refl).0 in let z : ◌≡◌ {A = ℕ} 0 1 = cc in absurd (omega arith)
+    let e = (reads_nothing [] place refl).0 in absurd cc
 writes_back (x ∷ body) place r by o = by_kind (x ∷ body) place r x by o (omega arith) refl
 
 -- what stands in the buffer after a write reads back
@@ -200,13 +180,6 @@ put_reads_back r start was is (Ok next) f p =
     let t : drop next is ≡ drop next was =
     ap (drop next) (p.2 ∙ sym (append_assoc (take start was) (encode r) (drop next was))) ∙ drop_at (take start was ++ encode r) (drop next was) next n in
     (ap (λ xs. reading_of xs start) d ∙ back.0, ap unread_of d ∙ back.1 ∙ sym t)
-
--- what is put as the bytes of a record whose numbers fit is written
-pub written : (r : Record) (start : ℕ) (was is : List ℕ) (answer : Result ℕ Refusal) {bytes : List ℕ}
-    → bytes ≡ encode r → Fit r → Put bytes start was is answer → Written r start was is answer
-written r start was is answer e f p =
-    let q : Put (encode r) start was is answer = subst (λ (xs : List ℕ). Put xs start was is answer) e p in
-    record { fit = f; put = q; reads_back = put_reads_back r start was is answer f q }
 
 -- what was read is written as the same bytes
 pub read_writes_back : (reading : Result (Option Record) Refusal) (bytes rest : List ℕ) (place : ℕ) → Bytes bytes → reading ≡ reading_of bytes place → rest ≡ unread_of bytes → WritesBack reading bytes rest
@@ -226,3 +199,9 @@ reads_part {part} {place} {reading} {rest} fits r =
       within = λ input e. reads_within input place rest (r.1 ∙ ap unread_of e);
       ahead = λ input e. reads_ahead input place reading rest (r.0 ∙ ap (λ xs. reading_of xs place) e) (r.1 ∙ ap unread_of e);
     }
+
+-- where the part begins with a kind and its whole body, its record is read
+pub reads_whole : {part : List ℕ} {place k n : ℕ} {r : Record}
+    → ((i : ℕ) → Fits w8 (get_or part i 0)) → get_or part 0 0 ≡ k → body_length k ≡ Some n → n < length part → r ≡ record_of k part
+    → ReadsPart part place (Ok (Some r)) (take (length part - suc n) (drop (suc n) part))
+reads_whole {part} {place} {k} {n} fits e b h q = reads_part fits (reads_record part place k n e b h q)

@@ -1,10 +1,9 @@
 -- Reading undoes writing, and writing undoes reading.
 use Rattle.std.specs.Prelude.{◌≡◌, ℕ, ◌+◌, ◌-◌, ◌≤◌, List, ◌++◌, length, drop, Some, None, Option, Ok, Err, IfOk, Result}
 use Rattle.report.specs.declared.Refusal.{Refusal}
-use Rattle.report.specs.Buffers.{Put}
 use Rattle.records.specs.declared.Record.{Record}
 use Rattle.records.specs.Feed.{reading_of, unread_of, Ahead}
-use Rattle.records.specs.Write.{encode, Fit}
+use Rattle.records.specs.Write.{encode}
 
 -- what a buffer holds after a write reads back as the record from the start place on, and what followed it is left
 abbrev pub ReadsBack : Record → ℕ → List ℕ → Result ℕ Refusal → Type 0
@@ -25,9 +24,3 @@ pub record ReadsPart (part : List ℕ) (place : ℕ) (reading : Result (Option R
   pub placed : (input : List ℕ) → part ≡ drop place input → rest ≡ drop (length input - length rest) input
   pub within : (input : List ℕ) → part ≡ drop place input → length rest ≤ length input
   pub ahead : (input : List ℕ) → part ≡ drop place input → Ahead reading (place + length rest) (length input)
-
--- the record's bytes are put into the buffer from the start place on, and read back, since its numbers fit their widths
-pub record Written (r : Record) (start : ℕ) (was is : List ℕ) (answer : Result ℕ Refusal) : Type 0 where
-  pub fit : Fit r
-  pub put : Put (encode r) start was is answer
-  pub reads_back : ReadsBack r start is answer
