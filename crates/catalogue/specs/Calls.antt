@@ -1,9 +1,10 @@
 -- What each call on a catalogue answers, and what it leaves at the places.
-use Rattle.std.specs.Prelude.{ℕ, Bool, not, ◌||◌, List, [], ◌∷◌, length, is_some, Some, None, Ok, Err, Option, Result, ◌==◌, nat_le, nat_lt, slice_set}
+use Rattle.std.specs.Prelude.{◌≡◌, ℕ, Bool, not, ◌||◌, List, [], ◌∷◌, length, is_some, Some, None, Ok, Err, Option, Result, ◌==◌, nat_le, nat_lt, slice_set}
 use Rattle.measure.specs.Kind.{Kind}
 use Rattle.report.specs.declared.Refusal.{Refusal}
 use Rattle.report.specs.declared.Refusal.TheVariants.{CatalogueSize, NoSuchLink, NoSuchSite, EndsMeet, ValueNotAdmitted, LinkTaken, LinkEmpty}
 use Rattle.report.specs.Refusals.{topmost, unless, filled_or}
+use Rattle.catalogue.specs.declared.Catalogue.{Catalogue}
 use Rattle.catalogue.specs.declared.Link.{Link}
 use Rattle.catalogue.specs.Places.{at}
 
@@ -54,3 +55,8 @@ remove_answer links place = unless (topmost (remove_causes links place)) (filled
 -- the links after it
 abbrev pub removed : {V : Type 0} → List (Option (Link V)) → ℕ → List (Option (Link V))
 removed links place = elim (remove_answer links place) [ Ok _ ↦ slice_set links place None | Err _ ↦ links ]
+
+-- as many sites as before, and the places are the same memory, whatever they hold
+pub record Keeps {V : Type 0} (was is : Catalogue V) : Type 0 where
+  pub sites : is.sites ≡ was.sites
+  pub same : is.links.ghost_name ≡ was.links.ghost_name

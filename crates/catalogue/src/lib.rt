@@ -4,7 +4,7 @@
 ghost use Rattle.std.specs.Prelude.{◌≡◌, ℕ, List, length, replicate, None, Option as Maybe};
 ghost use Rattle.catalogue.specs.declared.Link.{Link as Edge};
 ghost use Rattle.catalogue.specs.Places.{at};
-ghost use Rattle.catalogue.specs.Calls.{size_answer, store_answer, stored, replace_answer, replaced, remove_answer, removed};
+ghost use Rattle.catalogue.specs.Calls.{size_answer, store_answer, stored, replace_answer, replaced, remove_answer, removed, Keeps};
 
 use measure::Measure;
 use report::Refusal;
@@ -49,32 +49,28 @@ pub struct Catalogue<'a, M> {
 pub fn check_size(sites: usize, places: usize) -> Result<(), Refusal>
     ensures { result ≡ size_answer sites places }
 {
-    if sites < 1 || 256 < sites || places < 1 || 4096 < places {
-        return Err(Refusal::CatalogueSize);
+    if (1..=256).contains(&sites) && (1..=4096).contains(&places) {
+        Ok(())
+    } else {
+        Err(Refusal::CatalogueSize)
     }
-    Ok(())
 }
 
 // Empties every place.
 pub fn empty_all<T: Copy>(places: &mut [Option<T>])
     ensures { places.new ≡ replicate (length places.old) None }
 {
-    for place in places.iter_mut() {
-        *place = None;
-    }
+    places.fill(None);
 }
 
 // What stands at a place: nothing past the last.
 pub fn read_place<T: Copy>(places: &[Option<T>], place: usize) -> Option<T>
     ensures { result ≡ at places.now place }
 {
-    if place < places.len() {
-        places[place]
-    } else {
-        None
-    }
+    places.get(place).copied().flatten()
 }
 
+// The three below look the place up before they write, as `get_mut` says nothing of what a write through it leaves in the slice.
 fn store_at<M: Measure>(
     links: &mut [Option<Link<M>>],
     sites: usize,
@@ -84,9 +80,7 @@ fn store_at<M: Measure>(
     ensures answer { result ≡ store_answer M.Measure.kind sites links.old place link }
     ensures links { links.new ≡ stored M.Measure.kind sites links.old place link }
 {
-    if place >= links.len() {
-        return Err(Refusal::NoSuchLink);
-    }
+    let slot = links.get(place).ok_or(Refusal::NoSuchLink)?;
     if link.start as usize >= sites || link.end as usize >= sites {
         return Err(Refusal::NoSuchSite);
     }
@@ -96,7 +90,7 @@ fn store_at<M: Measure>(
     if !link.value.admitted() {
         return Err(Refusal::ValueNotAdmitted);
     }
-    if links[place].is_some() {
+    if slot.is_some() {
         return Err(Refusal::LinkTaken);
     }
     links[place] = Some(link);
@@ -111,16 +105,11 @@ fn replace_at<M: Measure>(
     ensures answer { result ≡ replace_answer M.Measure.kind links.old place value }
     ensures links { links.new ≡ replaced M.Measure.kind links.old place value }
 {
-    if place >= links.len() {
-        return Err(Refusal::NoSuchLink);
-    }
+    let slot = links.get(place).ok_or(Refusal::NoSuchLink)?;
     if !value.admitted() {
         return Err(Refusal::ValueNotAdmitted);
     }
-    let old = links[place];
-    let Some(link) = old else {
-        return Err(Refusal::LinkEmpty);
-    };
+    let link = slot.ok_or(Refusal::LinkEmpty)?;
     links[place] = Some(Link { value, ..link });
     Ok(link)
 }
@@ -129,13 +118,8 @@ fn remove_at<M: Measure>(links: &mut [Option<Link<M>>], place: usize) -> Result<
     ensures answer { result ≡ remove_answer links.old place }
     ensures links { links.new ≡ removed links.old place }
 {
-    if place >= links.len() {
-        return Err(Refusal::NoSuchLink);
-    }
-    let old = links[place];
-    let Some(link) = old else {
-        return Err(Refusal::LinkEmpty);
-    };
+    let slot = links.get(place).ok_or(Refusal::NoSuchLink)?;
+    let link = slot.ok_or(Refusal::LinkEmpty)?;
     links[place] = None;
     Ok(link)
 }
@@ -157,8 +141,7 @@ impl<M: Measure> Catalogue<'_, M> {
     pub fn store(&mut self, place: usize, link: Link<M>) -> Result<(), Refusal>
         ensures answer { result ≡ store_answer M.Measure.kind self.old.sites self.old.links.now place link }
         ensures links { self.new.links.now ≡ stored M.Measure.kind self.old.sites self.old.links.now place link }
-        ensures sites { self.new.sites ≡ self.old.sites }
-        ensures same { self.new.links.ghost_name ≡ self.old.links.ghost_name }
+        ensures keeps { Keeps self.old self.new }
     {
         let sites = self.sites;
         store_at(self.links, sites, place, link)
@@ -168,8 +151,7 @@ impl<M: Measure> Catalogue<'_, M> {
     pub fn replace(&mut self, place: usize, value: M) -> Result<Link<M>, Refusal>
         ensures answer { result ≡ replace_answer M.Measure.kind self.old.links.now place value }
         ensures links { self.new.links.now ≡ replaced M.Measure.kind self.old.links.now place value }
-        ensures sites { self.new.sites ≡ self.old.sites }
-        ensures same { self.new.links.ghost_name ≡ self.old.links.ghost_name }
+        ensures keeps { Keeps self.old self.new }
     {
         replace_at(self.links, place, value)
     }
@@ -178,8 +160,7 @@ impl<M: Measure> Catalogue<'_, M> {
     pub fn remove(&mut self, place: usize) -> Result<Link<M>, Refusal>
         ensures answer { result ≡ remove_answer self.old.links.now place }
         ensures links { self.new.links.now ≡ removed self.old.links.now place }
-        ensures sites { self.new.sites ≡ self.old.sites }
-        ensures same { self.new.links.ghost_name ≡ self.old.links.ghost_name }
+        ensures keeps { Keeps self.old self.new }
     {
         remove_at(self.links, place)
     }

@@ -26,9 +26,7 @@ pub fn follow<M: Measure, N: Links<M>>(network: &N, source: u16, legs: &[u16]) -
     let mut site = source;
     let mut value = M::empty();
     for leg in legs {
-        let Some(link) = network.link(*leg as usize) else {
-            return None;
-        };
+        let link = network.link(*leg as usize)?;
         if link.start != site {
             return None;
         }

@@ -3,7 +3,7 @@
 #![tactic(auto)]
 
 // What a label's place is used for. A queued label is still to be extended, and may give up its place; a settled one is for good.
-#[derive(Clone, Copy)]
+#[derive(Clone, Copy, PartialEq, Eq, Debug)]
 pub enum State {
     Free,
     Queued,
@@ -11,7 +11,7 @@ pub enum State {
 }
 
 // A walk that is held: its value, its last link, and the place of the label that it extends. A label that extends none names itself.
-#[derive(Clone, Copy)]
+#[derive(Clone, Copy, PartialEq, Eq, Debug)]
 pub struct Label<M> {
     pub state: State,
     pub value: M,
