@@ -33,14 +33,10 @@ pub fn read_input<R: Read>(input: &mut R, buffer: &mut [u8]) -> io::Result<usize
     ensures { IfOk result (Fills (R.Read.remaining input.old) (R.Read.remaining input.new) buffer.new) }
 {
     let mut got = 0;
-    for _ in 0..buffer.len() {
-        let room = &mut buffer[got..];
-        if room.is_empty() {
-            return Ok(got);
-        }
-        let n = input.read(room)?;
+    while got < buffer.len() {
+        let n = input.read(&mut buffer[got..])?;
         if n == 0 {
-            return Ok(got);
+            break;
         }
         got += n;
     }
