@@ -6,7 +6,8 @@ use Rattle.book.specs.Stores.{memory_of, network_of, book_of}
 use Rattle.cards.specs.Books.{opened_network, opened_book}
 use Rattle.cards.specs.Runs.{Memory, memory}
 use Rattle.service.specs.Serving.{TrunkValue, TrunkLimits}
-use Rattle.service.specs.Feeds.{Room, PrintsFeed}
+use Rattle.service.specs.Services.{Room}
+use Rattle.service.specs.Feeds.{PrintsFeed}
 use Rattle.service.specs.Input.{TakesUpTo, Fills, opened_day, day_room, ServesInput, PrintsInput}
 use Rattle.service.specs.declared.ServiceError.{ServiceError}
 use Rattle.service.specs.declared.ServiceError.TheVariants as ServiceErrors

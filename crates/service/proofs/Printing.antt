@@ -1,29 +1,33 @@
 -- What is printed of a feed, record by record.
-use Rattle.std.proofs.Common.{◌≡◌, ℕ, ◌+◌, ◌-◌, List, ◌++◌, length, take, drop, min, Some, Ok, Err, Option, Result, IsErrAnd, inl, inr, refl, ap, ◌∙◌, sym, subst}
+use Rattle.std.proofs.Common.{◌≡◌, ℕ, ◌+◌, ◌-◌, List, ◌++◌, length, drop, Some, Ok, Err, Option, Result, IsErrAnd, inl, inr, refl, ap, ◌∙◌, sym, subst}
 use Rattle.std.proofs.KnownBytes.{Appends-trans}
 use Rattle.std.specs.Io.KnownBytes.{Appends}
 use Rattle.records.specs.declared.Record.{Record}
 use Rattle.records.specs.Feed.{reading_of, unread_of}
-use Rattle.cards.specs.Runs.{Reply, Memory, Lent}
-use Rattle.book.proofs.Fronts.{take_min}
-use Rattle.line.specs.declared.Reply.{Reply as Printed}
-use Rattle.line.specs.Lines.{line_of}
+use Rattle.cards.specs.Runs.{Reply, Memory}
+use Rattle.service.specs.declared.serving.Service.{Service}
 use Rattle.service.specs.Serving.{TrunkValue, TrunkLimits, Served}
+use Rattle.service.specs.Services.{Room, memory_in, lent_by, room_in, SameService}
 use Rattle.service.specs.declared.ServiceError.{ServiceError}
-use Rattle.service.specs.Feeds.{Room, Lends, line_for, PrintsLine, ServesNext, Unreadable, ServesFirst, one_served, unreadable, PrintsFeed}
+use Rattle.service.specs.Feeds.{line_for, PrintsLine, ServesNext, Unreadable, ServesFirst, one_served, unreadable, PrintsFeed}
 
--- a line of as many of the numbers as there are
-pub line_cut : (number : ℕ) (p q : Printed) (n m i : ℕ) (xs : List ℕ) → p ≡ q → n ≡ m → i ≡ min n (length xs) →
-    line_of number p (take (i - 0) xs) ≡ line_of number q (take m xs)
-line_cut number p q n m i xs pq nm e =
-    ap (λ (x : Printed). line_of number x (take (i - 0) xs)) pq ∙ ap (λ (x : List ℕ). line_of number q x) (take_min n i xs e ∙ ap (λ (x : ℕ). take x xs) nm)
+-- a service is the same after two steps
+pub same_again : {s s' s'' : Service} → SameService s s' → SameService s' s'' → SameService s s''
+same_again p q = record {
+  links = q.links ∙ p.links;
+  places = (q.places.0 ∙ p.places.0, q.places.1 ∙ p.places.1);
+  labels = q.labels ∙ p.labels;
+  reply = q.reply ∙ p.reply;
+  room = q.room ∙ p.room;
+}
 
 -- a record that was read and served is the next
-pub next_served : {feed : List ℕ} {room : Room} {before after : Memory TrunkValue TrunkLimits} {number start : ℕ} {l l' : Lent TrunkValue} {r : Record} {reply : Reply TrunkValue} →
-    reading_of (drop start feed) start ≡ Ok (Some r) → Lends room l → Served before l r room.k reply after l' →
-    ServesNext feed room number start before (line_for (number + 1) reply l'.reply) after
-next_served {l = l} {l' = l'} {r = r} {reply = reply} is lends served =
-    record { it = r; reply = reply; brought = l; left = l'; reads = is; lends = lends; serves = served; prints = refl }
+pub next_served : {feed : List ℕ} {number start : ℕ} {opened before : Service} {r : Record} {reply : Reply TrunkValue} (after : Service) →
+    reading_of (drop start feed) start ≡ Ok (Some r) → SameService opened before → Served (memory_in before) (lent_by before) r before.k reply (memory_in after) (lent_by after) →
+    ServesNext feed (room_in opened) number start (memory_in before) (line_for (number + 1) reply after.reply.now) (memory_in after)
+next_served {feed} {number} {start} {opened} {before} {r} {reply} after is same served =
+    subst (λ (room : Room). ServesNext feed room number start (memory_in before) (line_for (number + 1) reply after.reply.now) (memory_in after)) same.room
+    record { it = r; reply = reply; brought = lent_by before; left = lent_by after; reads = is; lends = record { labels = refl; numbers = refl }; serves = served; prints = refl }
 
 -- one record more was served, and this part of the feed is left
 pub served_more : {feed : List ℕ} {room : Room} {m before after : Memory TrunkValue TrunkLimits} {number start : ℕ} {lines line : List ℕ} (rest : List ℕ) →

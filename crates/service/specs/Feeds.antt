@@ -7,10 +7,10 @@ use Rattle.report.specs.declared.Refusal.{Refusal}
 use Rattle.report.specs.declared.Refusal.TheVariants.{BufferTooShort}
 use Rattle.service.specs.declared.ServiceError.{ServiceError}
 use Rattle.service.specs.declared.ServiceError.TheVariants as ServiceErrors
-use Rattle.labels.specs.declared.Label.{Label}
 use Rattle.cards.specs.Runs.{Reply, Memory, Lent}
 use Rattle.line.specs.declared.Reply.TheVariants as LineVariants
 use Rattle.line.specs.Lines.{line_of}
+use Rattle.service.specs.Services.{Room, Lends}
 use Rattle.service.specs.Serving.{TrunkValue, TrunkLimits, Served, printed}
 
 -- the line of a reply: a route's legs are the first of the numbers that were lent for it
@@ -32,21 +32,6 @@ PrintsLine line was is (Err error) = Unwritten line was is error
 abbrev pub PrintsRecord : Memory TrunkValue TrunkLimits → Lent TrunkValue → ℕ → Record → ℕ → Option (List ℕ) → Option (List ℕ) → Memory TrunkValue TrunkLimits → Lent TrunkValue → Result (Unit {0}) ServiceError → Type 0
 PrintsRecord m l number r k was is m' l' answer =
     (reply : Reply TrunkValue) × Served m l r k reply m' l' × PrintsLine (line_for number reply l'.reply) was is answer
-
--- What is lent to each call that a feed asks for: how many labels a site, and how many labels and numbers in all.
-pub record Room : Type 0 where
-  pub k : ℕ
-  pub labels : ℕ
-  pub numbers : ℕ
-
--- the room of these labels and numbers, with k labels a site
-abbrev pub room_of : ℕ → List (Label TrunkValue) → List ℕ → Room
-room_of k labels numbers = record { k = k; labels = length labels; numbers = length numbers }
-
--- this much was lent
-pub record Lends (room : Room) (l : Lent TrunkValue) : Type 0 where
-  pub labels : length l.labels ≡ room.labels
-  pub numbers : length l.reply ≡ room.numbers
 
 -- The next record of the feed, which begins at the place, was served with so much lent to its call: its line, and the memory after it. It
 -- comes after so many others.

@@ -6,7 +6,8 @@ use Rattle.cards.specs.Runs.{Memory, memory}
 use Rattle.service.specs.declared.ServiceError.{ServiceError}
 use Rattle.service.specs.declared.ServiceError.TheVariants as ServiceErrors
 use Rattle.service.specs.Serving.{TrunkValue, TrunkLimits}
-use Rattle.service.specs.Feeds.{Room, PrintsFeed}
+use Rattle.service.specs.Services.{Room}
+use Rattle.service.specs.Feeds.{PrintsFeed}
 
 -- these are the next bytes of the input, so many at the most, and where they are fewer, the input is at its end
 pub record TakesUpTo (room : ℕ) (was is : Option (List ℕ)) (bytes : List ℕ) : Type 0 where

@@ -1,3 +1,4 @@
 pub mod Serving
+pub mod Services
 pub mod Feeds
 pub mod Input

@@ -1,18 +1,13 @@
 //! A whole feed: its records are served in order, and a line is written for each.
 ghost use Rattle.std.specs.Prelude.{◌≡◌};
 ghost use Rattle.std.specs.Io.KnownBytes.{Appends};
-ghost use Rattle.book.specs.Stores.{memory_of, SameLinks, SamePlaces};
-ghost use Rattle.cards.specs.Runs.{lent};
 ghost use Rattle.line.specs.Lines.{line_of};
-ghost use Rattle.service.specs.Feeds.{PrintsLine, PrintsRecord, PrintsFeed, room_of};
+ghost use Rattle.service.specs.Services.{memory_in, lent_by, room_in, SameService};
+ghost use Rattle.service.specs.Feeds.{PrintsLine, PrintsRecord, PrintsFeed};
 
-use crate::{ServiceError, print, serve};
-use catalogue::Catalogue;
+use crate::{Service, ServiceError, print};
 use feed::{Record, read_record};
-use labels::Label;
 use line::{Reply as Printed, write_line};
-use measure::pair::{Trunk, TrunkLimit};
-use quotes::QuoteBook;
 use std::io::Write;
 
 // Room for the longest line: a route with a leg for each site.
@@ -33,51 +28,39 @@ pub fn print_line<W: Write>(
     Ok(())
 }
 
-// Serves one record, and writes its line: the legs that it prints are the first numbers of the reply.
-pub fn serve_record<W: Write>(
-    out: &mut W,
-    number: usize,
-    catalogue: &mut Catalogue<'_, Trunk>,
-    book: &mut QuoteBook<'_, Trunk, TrunkLimit>,
-    labels: &mut [Label<Trunk>],
-    k: usize,
-    reply: &mut [u16],
-    record: Record,
-) -> Result<(), ServiceError>
-    ensures printed { PrintsRecord (memory_of catalogue.old book.old) (lent labels.old reply.old) number «record» k (W.Write.contents out.old) (W.Write.contents out.new) (memory_of catalogue.new book.new) (lent labels.new reply.new) result }
-    ensures links { SameLinks catalogue.old catalogue.new }
-    ensures places { SamePlaces book.old book.new }
-{
-    let (printed, count) = print(serve(catalogue, book, labels, k, reply, record));
-    print_line(out, number, printed, &reply[0..count.min(reply.len())])
-}
-
-// Serves the feed's records in order, with k labels a site, and writes a line for each, up to the first that cannot be read.
-pub fn serve_feed<W: Write>(
-    out: &mut W,
-    catalogue: &mut Catalogue<'_, Trunk>,
-    book: &mut QuoteBook<'_, Trunk, TrunkLimit>,
-    labels: &mut [Label<Trunk>],
-    k: usize,
-    reply: &mut [u16],
-    feed: &[u8],
-) -> Result<(), ServiceError>
-    ensures printed { PrintsFeed feed.now (room_of k labels.old reply.old) (memory_of catalogue.old book.old) (W.Write.contents out.old) (W.Write.contents out.new) (memory_of catalogue.new book.new) result }
-    ensures links { SameLinks catalogue.old catalogue.new }
-    ensures places { SamePlaces book.old book.new }
-{
-    let mut start = 0;
-    for turn in 0..feed.len() {
-        let number = turn + 1;
-        let (reading, rest) = read_record(feed, start);
-        match reading {
-            Ok(Some(record)) => {
-                start = feed.len() - rest.len();
-                serve_record(out, number, catalogue, book, labels, k, reply, record)?;
-            }
-            Ok(None) => return Ok(()),
-            Err(why) => return print_line(out, number, Printed::Refused(why), &[]),
-        }
+impl Service<'_> {
+    // Serves one record, and writes its line: the legs that it prints are the first numbers of the reply.
+    pub fn serve_record<W: Write>(
+        &mut self,
+        out: &mut W,
+        number: usize,
+        record: Record,
+    ) -> Result<(), ServiceError>
+        ensures printed { PrintsRecord (memory_in self.old) (lent_by self.old) number «record» self.old.k (W.Write.contents out.old) (W.Write.contents out.new) (memory_in self.new) (lent_by self.new) result }
+        ensures same { SameService self.old self.new }
+    {
+        let (printed, count) = print(self.serve(record));
+        print_line(out, number, printed, self.first_numbers(count))
     }
-    Ok(())
+
+    // Serves the feed's records in order, and writes a line for each, up to the first that cannot be read.
+    pub fn serve_feed<W: Write>(&mut self, out: &mut W, feed: &[u8]) -> Result<(), ServiceError>
+        ensures printed { PrintsFeed feed.now (room_in self.old) (memory_in self.old) (W.Write.contents out.old) (W.Write.contents out.new) (memory_in self.new) result }
+        ensures same { SameService self.old self.new }
+    {
+        let mut start = 0;
+        for turn in 0..feed.len() {
+            let number = turn + 1;
+            let (reading, rest) = read_record(feed, start);
+            match reading {
+                Ok(Some(record)) => {
+                    start = feed.len() - rest.len();
+                    self.serve_record(out, number, record)?;
+                }
+                Ok(None) => return Ok(()),
+                Err(why) => return print_line(out, number, Printed::Refused(why), &[]),
+            }
+        }
+        Ok(())
+    }
 }

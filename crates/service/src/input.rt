@@ -2,8 +2,7 @@
 ghost use Rattle.std.specs.Prelude.{IfOk};
 ghost use Rattle.service.specs.Input.{Fills, PrintsInput};
 
-use crate::ServiceError;
-use crate::feeds::serve_feed;
+use crate::{Service, ServiceError};
 use catalogue::{Catalogue, check_size};
 use measure::pair::Trunk;
 use quotes::{QuoteBook, check_book_size};
@@ -34,14 +33,10 @@ pub fn read_input<R: Read>(input: &mut R, buffer: &mut [u8]) -> io::Result<usize
     ensures { IfOk result (Fills (R.Read.remaining input.old) (R.Read.remaining input.new) buffer.new) }
 {
     let mut got = 0;
-    for _ in 0..buffer.len() {
-        let room = &mut buffer[got..];
-        if room.is_empty() {
-            return Ok(got);
-        }
-        let n = input.read(room)?;
+    while got < buffer.len() {
+        let n = input.read(&mut buffer[got..])?;
         if n == 0 {
-            return Ok(got);
+            break;
         }
         got += n;
     }
@@ -61,16 +56,13 @@ pub fn serve_input<R: Read, W: Write>(input: &mut R, out: &mut W) -> Result<(), 
     let mut reply = [0u16; SITES];
     check_size(SITES, PLACES)?;
     check_book_size(SITES, CARDS, ROWS)?;
-    let mut catalogue = Catalogue::open(&mut links, SITES);
-    let mut book = QuoteBook::open(&mut cards, &mut rows, SITES);
+    let mut service = Service {
+        catalogue: Catalogue::open(&mut links, SITES),
+        book: QuoteBook::open(&mut cards, &mut rows, SITES),
+        labels: &mut labels,
+        k: LABELS,
+        reply: &mut reply,
+    };
     let got = read_input(input, &mut buffer)?;
-    serve_feed(
-        out,
-        &mut catalogue,
-        &mut book,
-        &mut labels,
-        LABELS,
-        &mut reply,
-        &buffer[0..got],
-    )
+    service.serve_feed(out, &buffer[0..got])
 }

@@ -1,18 +1,14 @@
 //! Records of the trunk product's feed as calls on its catalogue and quote book, and what they answer as replies to be printed.
 #![tactic(auto)]
 
-ghost use Rattle.std.specs.Prelude.{◌≡◌, ◌+◌, length};
-ghost use Rattle.cards.specs.Runs.{lent};
-ghost use Rattle.book.specs.Stores.{memory_of, SameLinks, SamePlaces};
+ghost use Rattle.std.specs.Prelude.{◌≡◌};
 ghost use Rattle.service.specs.declared.ServiceError.TheVariants as ServiceErrors;
-ghost use Rattle.service.specs.Serving.{value_of, limit_of, call_of, card_read, printed, Served};
+ghost use Rattle.service.specs.Serving.{value_of, limit_of, call_of, card_read, printed};
 
 use cards::{Answer, Call, Reply};
-use catalogue::{Catalogue, Link};
-use labels::Label;
+use catalogue::Link;
 use line::Reply as Printed;
 use measure::pair::{Trunk, TrunkLimit, trunk_limits, trunk_value};
-use quotes::{QuoteBook, perform};
 use records::{Measures, Record};
 use report::Refusal;
 use routing::{Ask, Route};
@@ -21,9 +17,11 @@ use thiserror::Error;
 
 mod feeds;
 mod input;
+mod serving;
 
-pub use feeds::{print_line, serve_feed, serve_record};
+pub use feeds::print_line;
 pub use input::{read_input, serve_input};
+pub use serving::Service;
 
 // Why the lines of a feed were not written to their end.
 #[derive(Debug, Drop, Error)]
@@ -132,32 +130,6 @@ fn card_read(record: Record, reply: Reply<Trunk>) -> Option<usize>
         Record::Recheck { card } => Some(card as usize),
         _ => None,
     }
-}
-
-// Carries out the record's call. What is answered of a card is what a reading of it gives, so that its legs stand in the reply.
-pub fn serve(
-    catalogue: &mut Catalogue<'_, Trunk>,
-    book: &mut QuoteBook<'_, Trunk, TrunkLimit>,
-    labels: &mut [Label<Trunk>],
-    k: usize,
-    reply: &mut [u16],
-    record: Record,
-) -> Reply<Trunk>
-    ensures served { Served (memory_of catalogue.old book.old) (lent labels.old reply.old) «record» k result (memory_of catalogue.new book.new) (lent labels.new reply.new) }
-    ensures links { SameLinks catalogue.old catalogue.new }
-    ensures places { SamePlaces book.old book.new }
-{
-    let answer = perform(catalogue, book, labels, reply, call_of(record, k));
-    let Some(card) = card_read(record, answer) else {
-        return answer;
-    };
-    perform(
-        catalogue,
-        book,
-        labels,
-        reply,
-        Call::Read { card, start: 0 },
-    )
 }
 
 // What is printed of a reply, and how many of the reply's numbers are the legs of its route.

@@ -5,7 +5,7 @@ use Rattle.service.proofs.input.serve_input.Goals as goal
 
 pub returns : goal.returns
 returns g c =
-    let day = day_opened c.open-catalogue.result c.open-book.result c.open-catalogue.ensures.sites c.open-catalogue.ensures.links c.open-book.ensures.book in
+    let day = day_opened c.«open».result c.open-2.result c.«open».ensures.sites c.«open».ensures.links c.open-2.ensures.book in
     let long : length c.read_input.new.buffer ≡ 65536 = omega (arith, c.read_input.auto.buffer, length-replicate {A = ℕ}) in
     served_whole _ _ _ _ c.serve_feed.result
     (input_printed _ _ _ _ c.read_input.new.buffer c.in_ok-got.got _ _ _ _ long c.in_ok-got.ensures refl day c.serve_feed.ensures.printed)

@@ -3,13 +3,12 @@ use Rattle.records.specs.Feed.{Ahead}
 use Rattle.records.proofs.Readings.{reads_nothing}
 use Rattle.service.specs.Feeds.{none_served, at_its_end}
 use Rattle.std.proofs.KnownBytes.{Appends-nil, Appends-trans}
-use Rattle.service.proofs.Printing.{next_served, served_more, printed_last, broke_off}
-use Rattle.service.proofs.feeds.serve_feed.Goals as goal
+use Rattle.service.proofs.Printing.{same_again, next_served, served_more, printed_last, broke_off}
+use Rattle.service.proofs.serving.Service.serve_feed.Goals as goal
 
 pub loop-turn-init : goal.loop-turn-init
 loop-turn-init g c = record {
-  links = refl;
-  places = (refl, refl);
+  same = record { links = refl; places = (refl, refl); labels = refl; reply = refl; room = refl };
   within = omega arith;
   ahead = omega arith;
   served = ([], none_served, Appends-nil (g.W.Write.contents c.args.out.now));
@@ -33,7 +32,7 @@ returns-in_err-serve_record-in-Ok-Some-clause-printed g c =
     let (reply, served, printed) = c.serve_record.ensures.printed in
     let is : c.read_record-reading.result.0 ≡ Ok (Some c.in-Ok-Some.record) = search rules in
     broke_off _ _ _ _ _ s.1 s.2 c.serve_record.result c.from_residual.result _ c.in_err-serve_record-in-Ok-Some.was c.from_residual.ensures.1
-    (next_served (sym c.read_record-reading.ensures.reading ∙ is) (record { labels = omega arith; numbers = omega arith }) served) printed
+    (next_served c.serve_record.new.self (sym c.read_record-reading.ensures.reading ∙ is) c.loop-turn.invariant.same served) printed
 
 pub loop-turn-preserved : goal.loop-turn-preserved
 loop-turn-preserved g c =
@@ -44,13 +43,12 @@ loop-turn-preserved g c =
     let ahead : c.loop-turn.start + length rest < length c.args.feed.now =
     subst (λ x. Ahead x (c.loop-turn.start + length rest) (length c.args.feed.now)) is c.read_record-reading.ensures.ahead in
     record {
-      links = c.in_ok-serve_record-in-Ok-Some.ensures.links ∙ c.loop-turn.invariant.links;
-      places = (c.in_ok-serve_record-in-Ok-Some.ensures.places.0 ∙ c.loop-turn.invariant.places.0, c.in_ok-serve_record-in-Ok-Some.ensures.places.1 ∙ c.loop-turn.invariant.places.1);
+      same = same_again c.loop-turn.invariant.same c.in_ok-serve_record-in-Ok-Some.ensures.same;
       within = omega arith;
       ahead = omega arith;
       served = (
         _,
-        served_more rest s.1 (next_served (sym c.read_record-reading.ensures.reading ∙ is) (record { labels = omega arith; numbers = omega arith }) served) c.read_record-reading.ensures.rest,
+        served_more rest s.1 (next_served c.serve_record.new.self (sym c.read_record-reading.ensures.reading ∙ is) c.loop-turn.invariant.same served) c.read_record-reading.ensures.rest,
         Appends-trans _ _ _ _ _ s.2 wrote,
       );
     }
