@@ -10,7 +10,7 @@ mod sinks;
 mod words;
 
 use crate::sinks::{End, Sink, Writer};
-use crate::words::{Word, put_words};
+use crate::words::{Word, put_number, put_words};
 use measure::Ratio;
 use measure::pair::Trunk;
 use report::{Mark, Refusal, Returned};
@@ -104,7 +104,7 @@ impl Line<'_> {
     fn put<S: Sink>(self, sink: &mut S)
         ensures { S.took sink.old (line_of self.entry.number self.entry.reply self.entry.legs.now) sink.new }
     {
-        sink.put_number(self.number);
+        put_number(self.number, sink);
         self.reply.put(self.legs, sink);
         sink.put(b"\n");
     }

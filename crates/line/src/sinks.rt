@@ -2,8 +2,6 @@
 ghost use Rattle.std.specs.Prelude.{◌≡◌, ℕ, List, [], ◌++◌};
 ghost use Rattle.line.specs.Sinks.{Counted, Written, counted_none, counted_both, written_none, written_both};
 
-use itoa::{Buffer, Integer};
-
 // A sink takes all that is put into it. std's `fmt::Write` may fail, and its contract leaves open when a `write!` does,
 // so by it a line that has no room could not be told from one that failed.
 pub(crate) trait Sink {
@@ -12,14 +10,6 @@ pub(crate) trait Sink {
 
     fn put(&mut self, bytes: &[u8])
         ensures { took self.old bytes.now self.new };
-
-    final fn put_number<I: Integer>(&mut self, n: I)
-    where
-        Self: Sized,
-        ensures { took self.old (I.text n) self.new }
-    {
-        self.put(Buffer::new().format(n).as_bytes());
-    }
 
     // No bytes change nothing, and bytes that are put after others were put with them.
     ghost nothing: { (s : Self) → took s [] s };

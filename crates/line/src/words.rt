@@ -7,6 +7,17 @@ ghost use Rattle.line.specs.Words.{spelled};
 use crate::sinks::Sink;
 use measure::Ratio;
 
+// Puts a number in decimal. std prints numbers through `fmt` alone, whose contract does not say when it succeeds.
+pub(crate) fn put_number<S: Sink>(n: usize, sink: &mut S)
+    ensures { S.took sink.old (decimal n) sink.new }
+{
+    if n < 10 {
+        return sink.put(&[b'0' + n as u8]);
+    }
+    put_number(n / 10, sink);
+    sink.put(&[b'0' + (n % 10) as u8]);
+}
+
 #[derive(Clone, Copy)]
 pub(crate) enum Word {
     Text(&'static [u8]),
@@ -20,11 +31,11 @@ impl Word {
     {
         match self {
             Word::Text(text) => sink.put(text),
-            Word::Number(n) => sink.put_number(n),
+            Word::Number(n) => put_number(n, sink),
             Word::Share(ratio) => {
-                sink.put_number(ratio.top);
+                put_number(ratio.top as usize, sink);
                 sink.put(b"/");
-                sink.put_number(ratio.bottom);
+                put_number(ratio.bottom as usize, sink);
             }
         }
     }
@@ -41,6 +52,6 @@ pub(crate) fn put_words<S: Sink>(words: &[Word], legs: &[u16], sink: &mut S)
     }
     for leg in legs {
         sink.put(b" ");
-        sink.put_number(*leg);
+        put_number(*leg as usize, sink);
     }
 }
