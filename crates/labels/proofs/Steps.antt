@@ -14,35 +14,35 @@ use Rattle.labels.proofs.Cover.{Covered, Covers, goes_more, first_best, none_lef
 use Rattle.measure.proofs.Ranking.{rank_dom, rank_trans, rank_antisym}
 use Rattle.labels.proofs.Chains.{one_site, done_held, waits_held, held_cases, not_both, Same, same_from, chain_keep, chain_walk, chain_off}
 
-module _ {V L : Type 0} {K : Kind V L} (laws : Laws K) (l : L) (adm : K.limit_admitted l ≡ true) (Lead : ℕ → ℕ → ℕ → V → Type 0) (links : (p s t : ℕ) (c : V) → Lead p s t c → Made K c) (k src dst : ℕ) where
-  -- the label at h, of first rank among the queued, is settled
-  module _ (A B : ℕ → Label V) (h : ℕ) (steps : Settles A B h) (waits : Waits A h) where
-    settle_same : (p : ℕ) → Same A B p
-    settle_same p =
-        ⊎_elim
-        (λ e. subst (Same A B) (sym e) (record { value = ap (λ x. x.value) steps.here; previous = ap (λ x. x.previous) steps.here; link = ap (λ x. x.link) steps.here }))
-        (λ ne. same_from A B p (steps.other p ne))
-        (cases_eq p h)
+-- the label at h is settled
+module _ {V : Type 0} {A B : ℕ → Label V} {h : ℕ} (steps : Settles A B h) where
+  settle_same : (p : ℕ) → Same A B p
+  settle_same p =
+      ⊎_elim
+      (λ e. subst (Same A B) (sym e) (record { value = ap (λ x. x.value) steps.here; previous = ap (λ x. x.previous) steps.here; link = ap (λ x. x.link) steps.here }))
+      (λ ne. same_from A B p (steps.other p ne))
+      (cases_eq p h)
 
-    pub settle_done : Done B h
-    settle_done = ap (λ x. is_settled x.state) steps.here
+  pub settle_done : Done B h
+  settle_done = ap (λ x. is_settled x.state) steps.here
 
-    pub settle_on : (p : ℕ) → Done A p → Done B p
-    settle_on p d =
-        ⊎_elim
-        (λ e. subst (Done B) (sym e) settle_done)
-        (λ ne. subst (λ x. is_settled x.state ≡ true) (sym (steps.other p ne)) d)
-        (cases_eq p h)
+  pub settle_on : (p : ℕ) → Done A p → Done B p
+  settle_on p d =
+      ⊎_elim
+      (λ e. subst (Done B) (sym e) settle_done)
+      (λ ne. subst (λ x. is_settled x.state ≡ true) (sym (steps.other p ne)) d)
+      (cases_eq p h)
 
+  settle_back : (p : ℕ) → Done B p → Done A p ⊎ (p ≡ h)
+  settle_back p d = ⊎_elim inr (λ ne. inl (subst (λ x. is_settled x.state ≡ true) (steps.other p ne) d)) (cases_eq p h)
+
+  module _ (waits : Waits A h) where
     settle_waits : (p : ℕ) → Waits B p → Waits A p
     settle_waits p w =
         ⊎_elim
         (λ e. subst (Waits A) (sym e) waits)
         (λ ne. subst (λ x. is_queued x.state ≡ true) (steps.other p ne) w)
         (cases_eq p h)
-
-    settle_back : (p : ℕ) → Done B p → Done A p ⊎ (p ≡ h)
-    settle_back p d = ⊎_elim inr (λ ne. inl (subst (λ x. is_settled x.state ≡ true) (steps.other p ne) d)) (cases_eq p h)
 
     settle_held : (p : ℕ) → Held B p → Held A p
     settle_held p d =
@@ -51,49 +51,52 @@ module _ {V L : Type 0} {K : Kind V L} (laws : Laws K) (l : L) (adm : K.limit_ad
         (λ d. ⊎_elim (done_held _) (λ e. subst (Held A) (sym e) (waits_held _ waits)) (settle_back p d))
         (held_cases _ d)
 
+module _ {V L : Type 0} {K : Kind V L} (laws : Laws K) (l : L) (adm : K.limit_admitted l ≡ true) (Lead : ℕ → ℕ → ℕ → V → Type 0) (links : (p s t : ℕ) (c : V) → Lead p s t c → Made K c) (k src dst : ℕ) where
+  -- the label at h, of first rank among the queued, is settled
+  module _ (A B : ℕ → Label V) (h : ℕ) (steps : Settles A B h) (waits : Waits A h) where
     settle_has : (t : ℕ) (w : V) → Has K l Lead k src dst A t w → Has K l Lead k src dst B t w
     settle_has t w (p, at, held, d) = (
       p,
       at,
       ⊎_elim
-          (λ e. subst (Held B) (sym e) (done_held _ settle_done))
+          (λ e. subst (Held B) (sym e) (done_held _ (settle_done steps)))
           (λ ne. subst (λ x. is_held x.state ≡ true) (sym (steps.other p ne)) held)
           (cases_eq p h),
-      subst (λ x. K.dominates x w ≡ true) (sym (settle_same p).value) d,
+      subst (λ x. K.dominates x w ≡ true) (sym (settle_same steps p).value) d,
     )
 
     module _ (kept : Kept K l Lead k src dst A) (first : (q : ℕ) → Waits A q → ranks K l (A q).value (A h).value ≡ false) where
       pub settle_kept : (In k dst h → ⊥) → Kept K l Lead k src dst B
       settle_kept off = record {
-        fit = λ p held. subst (Fit K l) (sym (settle_same p).value) (kept.fit p (settle_held p held));
-        ordered = λ p q d w. subst₂ (λ x y. ranks K l x y ≡ false) (sym (settle_same q).value) (sym (settle_same p).value)
+        fit = λ p held. subst (Fit K l) (sym (settle_same steps p).value) (kept.fit p (settle_held steps waits p held));
+        ordered = λ p q d w. subst₂ (λ x y. ranks K l x y ≡ false) (sym (settle_same steps q).value) (sym (settle_same steps p).value)
             (⊎_elim
-            (λ da. kept.ordered p q da (settle_waits q w))
-            (λ e. subst (λ x. ranks K l (A q).value (A x).value ≡ false) (sym e) (first q (settle_waits q w)))
-            (settle_back p d));
-        apart = λ s p q ap aq hp hq ne. subst₂ (λ x y. K.dominates x y ≡ false) (sym (settle_same p).value) (sym (settle_same q).value) (kept.apart s p q ap aq (settle_held p hp) (settle_held q hq) ne);
-        chained = λ p held. let (qs, c) = kept.chained p (settle_held p held) in (qs, chain_keep laws l Lead links k src dst A B (λ q d. (settle_same q, settle_on q d)) qs p (settle_same p) c);
+            (λ da. kept.ordered p q da (settle_waits steps waits q w))
+            (λ e. subst (λ x. ranks K l (A q).value (A x).value ≡ false) (sym e) (first q (settle_waits steps waits q w)))
+            (settle_back steps p d));
+        apart = λ s p q ap aq hp hq ne. subst₂ (λ x y. K.dominates x y ≡ false) (sym (settle_same steps p).value) (sym (settle_same steps q).value) (kept.apart s p q ap aq (settle_held steps waits p hp) (settle_held steps waits q hq) ne);
+        chained = λ p held. let (qs, c) = kept.chained p (settle_held steps waits p held) in (qs, chain_keep laws l Lead links k src dst A B (λ q d. (settle_same steps q, settle_on steps q d)) qs p (settle_same steps p) c);
         start = settle_has src K.empty kept.start;
-        ahead = λ p at d. ⊎_elim (kept.ahead p at) (λ e. off (subst (In k dst) e at)) (settle_back p d);
+        ahead = λ p at d. ⊎_elim (kept.ahead p at) (λ e. off (subst (In k dst) e at)) (settle_back steps p d);
       }
 
       pub settle_last : Last K l Lead k src dst B h
       settle_last p d =
-          subst₂ (λ x y. ranks K l x y ≡ false) (sym (settle_same h).value) (sym (settle_same p).value)
+          subst₂ (λ x y. ranks K l x y ≡ false) (sym (settle_same steps h).value) (sym (settle_same steps p).value)
           (⊎_elim
           (λ da. kept.ordered p h da waits)
           (λ e. subst (λ x. ranks K l (A h).value (A x).value ≡ false) (sym e) (first h waits))
-          (settle_back p d))
+          (settle_back steps p d))
 
       -- where what every settled label reaches was held
       pub settle_spread : SpreadAll K l Lead k src dst A → Spread K l Lead k src dst B h 0
       settle_spread all p s j t c d at lead low fits =
-          let e = (settle_same p).value in
+          let e = (settle_same steps p).value in
           subst (λ x. Has K l Lead k src dst B t (extend K x c)) (sym e)
           (⊎_elim
           (λ da. settle_has t (extend K (A p).value c) (all p s j t c da at lead (subst (λ x. K.within (extend K x c) l ≡ true) e fits)))
           (λ same. absurd (none j (low same)))
-          (settle_back p d))
+          (settle_back steps p d))
         where
           none : (j : ℕ) → j < 0 → ⊥
           none j h = omega arith
