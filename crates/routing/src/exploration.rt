@@ -101,8 +101,7 @@ impl<M: Measure, N: Links<M>> Exploration<'_, M, N> {
             previous: h,
             link: i,
         };
-        put(there, offer.site, newcomer)?;
-        Ok(())
+        put(there, offer.site, newcomer)
     }
 
     // Extends the label at `h`, which stands at `site`, by every link from there.

@@ -141,9 +141,8 @@ fn find<M: Measure, N: Links<M>>(
     Ok(Some(Route { legs, value, ratio }))
 }
 
-// Finds the walk of first rank from the source to the destination within the limit, with k labels a site, and writes its legs
-// to the row. The labels are lent for this call alone: none is held when it ends.
-pub fn find_route<M: Measure, N: Links<M>>(
+// Checks the call, routes, and frees the labels that were lent.
+fn find_and_free<M: Measure, N: Links<M>>(
     network: &N,
     labels: &mut [Label<M>],
     k: usize,
@@ -156,4 +155,18 @@ pub fn find_route<M: Measure, N: Links<M>>(
     let answer = find(network, labels, k, ask, row);
     free_all(labels);
     answer
+}
+
+// Finds the walk of first rank from the source to the destination within the limit, with k labels a site, and writes its legs
+// to the row. The labels are lent for this call alone: none is held when it ends.
+pub fn find_route<M: Measure, N: Links<M>>(
+    network: &N,
+    labels: &mut [Label<M>],
+    k: usize,
+    ask: Ask<M::Limit>,
+    row: &mut [u16],
+) -> Result<Option<Route<M>>, Refusal>
+    ensures { Searched M.Measure.kind (N.Links.span network.now) (N.Links.links network.now) k ask labels.old labels.new row.old row.new result }
+{
+    find_and_free(network, labels, k, ask, row)
 }

@@ -1,5 +1,5 @@
-use Rattle.std.proofs.Common.{sym, refl, ◌∙◌, arith}
-use Rattle.std.proofs.lemmas.Result.{err_from_is_err_and}
+use Rattle.std.proofs.Common.{◌+◌, ◌≤◌, length, sym, refl, ◌∙◌, arith}
+use Rattle.std.proofs.lemmas.Result.{MatchResult-weaker}
 use Rattle.labels.proofs.Turns.{turn_none, covered_there, put_there, full_there}
 use Rattle.routing.proofs.exploration.Exploration.extend_by.Goals as goal
 
@@ -15,20 +15,12 @@ returns-then-is_dominated g c =
     let start = c.first_place-start in
     covered_there g.met.M.Measure.lawful self.admitted self.sound c.args.labels.now c.requires.opens c.in-Some.ensures start.result start.ensures.value (omega (arith, c.requires.size, start.ensures.room)) (sym c.is_dominated.ensures ∙ c.if-is_dominated.true)
 
-pub returns-in_err-put : goal.returns-in_err-put
-returns-in_err-put g c =
-    let self = c.args.self.now in
-    let start = c.first_place-start in
-    let why = err_from_is_err_and c.from_residual.result c.from_residual.ensures.1 in
-    rw (why.1) (
-      c.in-Some.offer.site,
-      why.2 ∙ c.in_err-put.ensures.0,
-      full_there g.met.M.Measure.lawful self.admitted self.sound c.args.labels.now c.requires.opens c.in-Some.ensures start.result start.ensures.value (omega (arith, c.requires.size, start.ensures.room)) (sym c.is_dominated.ensures ∙ c.if-is_dominated.false) c.in_err-put.ensures.1,
-    )
-
 pub returns : goal.returns
 returns g c =
     let self = c.args.self.now in
     let start = c.first_place-start in
-    let (x, found, made) = c.in_ok-put.ensures in
-    put_there g.met.M.Measure.lawful self.admitted self.sound c.args.labels.now c.requires.opens c.in-Some.ensures start.result start.ensures.value (omega (arith, c.requires.size, start.ensures.room)) (sym c.is_dominated.ensures ∙ c.if-is_dominated.false) c.put.new.labels x found made
+    let room : start.result + self.k ≤ length c.args.labels.now = omega (arith, c.requires.size, start.ensures.room) in
+    let fresh = sym c.is_dominated.ensures ∙ c.if-is_dominated.false in
+    MatchResult-weaker c.put.result c.put.ensures
+    (λ _ e. let (x, found, made) = e in put_there g.met.M.Measure.lawful self.admitted self.sound c.args.labels.now c.requires.opens c.in-Some.ensures start.result start.ensures.value room fresh c.put.new.labels x found made)
+    (λ why e. (c.in-Some.offer.site, e.0, full_there g.met.M.Measure.lawful self.admitted self.sound c.args.labels.now c.requires.opens c.in-Some.ensures start.result start.ensures.value room fresh e.1))

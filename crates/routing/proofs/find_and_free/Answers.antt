@@ -2,7 +2,7 @@ use Rattle.std.proofs.Common.{Err, length, sym, ap, ◌∙◌}
 use Rattle.std.proofs.lemmas.Result.{err_from_is_err_and}
 use Rattle.labels.proofs.Scans.{frees_map}
 use Rattle.routing.proofs.Refusing.{admits, unrefused, searched_refused, searched_so}
-use Rattle.routing.proofs.find_route.Goals as goal
+use Rattle.routing.proofs.find_and_free.Goals as goal
 
 pub returns-in_err-check : goal.returns-in_err-check
 returns-in_err-check g c =
