@@ -75,35 +75,6 @@ impl<M: Measure, N: Links<M>> Exploration<'_, M, N> {
         }
     }
 
-    // Extends the label at `h`, which stands at `site`, by the link at `i`.
-    fn extend_by(
-        &self,
-        labels: &mut [Label<M>],
-        h: usize,
-        site: usize,
-        i: usize,
-    ) -> Result<(), Refusal>
-        requires size { length labels.old ≡ N.Links.span self.now.network.now * self.now.k }
-        requires opens { Opens M.Measure.kind self.now.limit (N.Links.links self.now.network.now) self.now.k self.now.source self.now.destination (table M.Measure.kind labels.old) h site i }
-        ensures { MatchResult result (λ _. Opens M.Measure.kind self.now.limit (N.Links.links self.now.network.now) self.now.k self.now.source self.now.destination (table M.Measure.kind labels.new) h site (i + 1) × Steady (table M.Measure.kind labels.old) (table M.Measure.kind labels.new)) (Overfull M.Measure.kind self.now.limit (N.Links.links self.now.network.now) self.now.k self.now.source) }
-    {
-        let Some(offer) = self.offered(labels, h, site, i) else {
-            return Ok(());
-        };
-        let start = self.first_place(offer.site);
-        let there = &mut labels[start..start + self.k];
-        if is_dominated(there, offer.value) {
-            return Ok(());
-        }
-        let newcomer = Label {
-            state: State::Queued,
-            value: offer.value,
-            previous: h,
-            link: i,
-        };
-        put(there, offer.site, newcomer)
-    }
-
     // Extends the label at `h`, which stands at `site`, by every link from there.
     fn extend(&self, labels: &mut [Label<M>], h: usize, site: usize) -> Result<(), Refusal>
         requires size { length labels.old ≡ N.Links.span self.now.network.now * self.now.k }
@@ -111,7 +82,21 @@ impl<M: Measure, N: Links<M>> Exploration<'_, M, N> {
         ensures { MatchResult result (λ _. Rests M.Measure.kind self.now.limit (N.Links.links self.now.network.now) self.now.k self.now.source self.now.destination (table M.Measure.kind labels.new) × Steady (table M.Measure.kind labels.old) (table M.Measure.kind labels.new)) (Overfull M.Measure.kind self.now.limit (N.Links.links self.now.network.now) self.now.k self.now.source) }
     {
         for i in 0..self.network.places() {
-            self.extend_by(labels, h, site, i)?;
+            let Some(offer) = self.offered(labels, h, site, i) else {
+                continue;
+            };
+            let start = self.first_place(offer.site);
+            let there = &mut labels[start..start + self.k];
+            if is_dominated(there, offer.value) {
+                continue;
+            }
+            let newcomer = Label {
+                state: State::Queued,
+                value: offer.value,
+                previous: h,
+                link: i,
+            };
+            put(there, offer.site, newcomer)?;
         }
         Ok(())
     }
