@@ -16,7 +16,7 @@ use Rattle.catalogue.specs.Routes.{Sound, Outside, Crowded}
 use Rattle.labels.proofs.Finding.{links_made, leads_one}
 use Rattle.labels.specs.Labels.{is_held, is_queued, is_settled, In, Held, Waits, Done, Has, Settles, Adds, Steady, Offered, OffersNone, Opens, Rests, is_free, covers, Leader, table, freed, Wins, Starts}
 use Rattle.labels.proofs.Chains.{one_site, waits_held, not_both}
-use Rattle.labels.proofs.Steps.{skip_spread, crowded, add_kept, add_last, add_spread, add_done, settle_kept, settle_last, settle_spread, settle_done, settle_on, found_first, nothing_left, start_kept, start_spread}
+use Rattle.labels.proofs.Steps.{skip_spread, crowded, added, settle_kept, settle_last, settle_spread, settle_done, settle_on, found_first, nothing_left, start_kept, start_spread}
 
 free_not_done : (x : State) → is_held x ≡ false → is_settled x ≡ false
 free_not_done Free e = refl
@@ -54,7 +54,7 @@ module _ {V L : Type 0} {K : Kind V L} (laws : Laws K) {l : L} (adm : K.limit_ad
       done = opens.done;
       last = opens.last;
       at = opens.at;
-      spread = skip_spread laws l adm (Holds cat) links k src dst A h i opens.spread
+      spread = skip_spread K l (Holds cat) k src dst A h i opens.spread
           (λ s t c at lead. here s t c (subst (λ y. Holds cat i y t c) (one_site k s site h at opens.at) lead));
     }
 
@@ -81,22 +81,14 @@ module _ {V L : Type 0} {K : Kind V L} (laws : Laws K) {l : L} (adm : K.limit_ad
 
         pub turn_full : ((p : ℕ) → In k t p → Held A p × (Waits A p → K.dominates n (A p).value ≡ false)) → Crowded K l (Holds cat) k src t
         turn_full full =
-            crowded laws l adm (Holds cat) links k src dst A opens.kept h i site t offer.value opens.done opens.last opens.at offer.leads fits fresh_j
+            crowded laws adm links opens.kept h i site t offer.value opens.done opens.last opens.at offer.leads fits fresh_j
             (λ p at. let f = full p at in (f.0, λ w. subst (λ y. K.dominates y (A p).value ≡ false) offer.joined (f.1 w)))
 
         pub turn_adds : (C : ℕ → Label V) (x : ℕ) → Adds K A C (t * k) (t * k + k) x (record { state = Queued; value = n; previous = h; link = i }) → Opens K l cat k src dst C h site (i + 1) × Steady A C
         turn_adds C x adds =
             let made : Adds K A C (t * k) (t * k + k) x (record { state = Queued; value = j; previous = h; link = i }) = subst (λ y. Adds K A C (t * k) (t * k + k) x (record { state = Queued; value = y; previous = h; link = i })) offer.joined adds in
-            let same : C h ≡ A h = add_done laws l adm (Holds cat) links k src dst A opens.kept h i site t offer.value opens.done opens.last opens.at offer.leads fits fresh_j C x made h opens.done in (
-              record {
-                kept = add_kept laws l adm (Holds cat) links k src dst A opens.kept h i site t offer.value opens.done opens.last opens.at offer.leads fits fresh_j C x made;
-                done = subst (λ y. is_settled y.state ≡ true) (sym same) opens.done;
-                last = add_last laws l adm (Holds cat) links k src dst A opens.kept h i site t offer.value opens.done opens.last opens.at offer.leads fits fresh_j C x made;
-                at = opens.at;
-                spread = add_spread laws l adm (Holds cat) links k src dst A opens.kept h i site t offer.value opens.done opens.last opens.at offer.leads fits fresh_j C x made (leads_one cat) opens.spread;
-              },
-              adds_steady K A C (t * k) (t * k + k) x _ refl adds,
-            )
+            let (kept, done, last, spread) = added laws adm links opens.kept h i site t offer.value opens.done opens.last opens.at offer.leads fits fresh_j C x made (leads_one cat) opens.spread in
+            (record { kept = kept; done = done; last = last; at = opens.at; spread = spread }, adds_steady K A C (t * k) (t * k + k) x _ refl adds)
 
   -- the labels of the site that the link at i leads to, from s on, where the labels are xs
   module _ (xs : List (Label V)) {k src dst : ℕ} {h site i : ℕ} (opens : Opens K l cat k src dst (table K xs) h site i) {t : ℕ} {n : V} (offer : Offered K l cat (table K xs) h site i t n) (s : ℕ) (first : s ≡ t * k) (room : s + k ≤ length xs) where
@@ -124,11 +116,11 @@ module _ {V L : Type 0} {K : Kind V L} (laws : Laws K) {l : L} (adm : K.limit_ad
   module _ {k src dst : ℕ} {A : ℕ → Label V} (rests : Rests K l cat k src dst A) where
     pub turn_settle : {B : ℕ → Label V} {h : ℕ} (site : ℕ) → Settles A B h → Waits A h → ((q : ℕ) → Waits A q → ranks K l (A q).value (A h).value ≡ false) → In k site h → (site ≡ dst → ⊥) → Opens K l cat k src dst B h site 0
     turn_settle {B} {h} site steps waits first at off = record {
-      kept = settle_kept laws l adm (Holds cat) links k src dst A B h steps waits rests.kept first (λ d. off (one_site k site dst h at d));
+      kept = settle_kept laws adm links rests.kept steps waits first (λ d. off (one_site k site dst h at d));
       done = settle_done steps;
-      last = settle_last laws l adm (Holds cat) links k src dst A B h steps waits rests.kept first;
+      last = settle_last laws adm links rests.kept steps waits first;
       at = at;
-      spread = settle_spread laws l adm (Holds cat) links k src dst A B h steps waits rests.kept first rests.spread;
+      spread = settle_spread laws adm links rests.kept steps waits first rests.spread;
     }
 
     pub turn_wins : (h : ℕ) → Waits A h → ((q : ℕ) → Waits A q → ranks K l (A q).value (A h).value ≡ false) → In k dst h → Wins K l cat k src dst A h
