@@ -1,6 +1,6 @@
 -- Places, states, and the chains of labels.
 use Rattle.std.proofs.Common.{true, ◌≡◌, ℕ, suc, ◌+◌, ◌*◌, ◌<◌, ◌≤◌, false, ◌⊎◌, List, [], ◌∷◌, sym, refl, ap, ◌∙◌, subst, inl, inr, ⊎_elim, mul-le-mul_right, suc-mul, arith}
-use Rattle.std.proofs.lemmas.Bool.{both_ways, cases_order, false≢true}
+use Rattle.std.proofs.lemmas.Bool.{both_ways, cases_eq, cases_order, false≢true}
 use Rattle.labels.specs.declared.State.{State}
 use Rattle.labels.specs.declared.State.TheVariants.{Free, Queued, Settled}
 use Rattle.labels.specs.declared.Label.{Label}
@@ -20,6 +20,10 @@ below k s t p lt a b =
 -- a place is of one site only
 pub one_site : (k s t p : ℕ) → In k s p → In k t p → s ≡ t
 one_site k s t p a b = ⊎_elim (λ e. e) (⊎_elim (λ h. absurd (below k s t p h a b)) (λ h. absurd (below k t s p h b a))) (cases_order s t)
+
+-- what holds at h, and at every other place
+pub at_or : (P : ℕ → Type 0) (h : ℕ) → P h → (p : ℕ) → ((p ≡ h → ⊥) → P p) → P p
+at_or P h here p other = ⊎_elim (λ e. subst P (sym e) here) other (cases_eq p h)
 
 pub done_held : (x : State) → is_settled x ≡ true → is_held x ≡ true
 done_held Free h = h

@@ -1,6 +1,6 @@
 -- What a step of the search keeps.
 use Rattle.std.proofs.Common.{◌≡◌, ℕ, suc, ◌+◌, ◌*◌, ◌<◌, true, false, cond, ltb, ◌⊎◌, List, [], ◌∷◌, ◌++◌, sym, refl, ap, ◌∙◌, subst, subst₂, inl, inr, ⊎_elim, arith}
-use Rattle.std.proofs.lemmas.Bool.{both_ways, cases_eq, cases_Bool, ltb-true, ltb-false}
+use Rattle.std.proofs.lemmas.Bool.{both_ways, cases_eq, cases_Bool, cond_both, false_from_ne_true, ltb-true, ltb-false}
 use Rattle.labels.specs.declared.State.TheVariants.{Queued}
 use Rattle.labels.specs.declared.Label.{Label}
 use Rattle.measure.specs.Kind.{Kind, Made, made_empty}
@@ -12,105 +12,65 @@ use Rattle.labels.proofs.Extending.{extend_made, extend_over, rank_extend}
 use Rattle.labels.specs.Labels.{is_held, is_queued, is_settled, In, Held, Waits, Done, Off, Chain, path, Has, Kept, Spread, SpreadAll, Last, Settles, Adds}
 use Rattle.labels.proofs.Cover.{Covered, Covers, goes_more, first_best, none_left}
 use Rattle.measure.proofs.Ranking.{rank_dom, rank_trans, rank_antisym}
-use Rattle.labels.proofs.Chains.{one_site, done_held, waits_held, held_cases, not_both, Same, same_from, chain_keep, chain_walk, chain_off}
+use Rattle.labels.proofs.Chains.{one_site, at_or, done_held, waits_held, held_cases, not_both, Same, same_from, chain_keep, chain_walk, chain_off}
 
-module _ {V L : Type 0} {K : Kind V L} (laws : Laws K) (l : L) (adm : K.limit_admitted l ≡ true) (Lead : ℕ → ℕ → ℕ → V → Type 0) (links : (p s t : ℕ) (c : V) → Lead p s t c → Made K c) (k src dst : ℕ) where
-  -- the label at h, of first rank among the queued, is settled
-  module _ (A B : ℕ → Label V) (h : ℕ) (steps : Settles A B h) (waits : Waits A h) where
-    settle_same : (p : ℕ) → Same A B p
-    settle_same p =
-        ⊎_elim
-        (λ e. subst (Same A B) (sym e) (record { value = ap (λ x. x.value) steps.here; previous = ap (λ x. x.previous) steps.here; link = ap (λ x. x.link) steps.here }))
-        (λ ne. same_from A B p (steps.other p ne))
-        (cases_eq p h)
+-- the label at h is settled
+module _ {V : Type 0} {A B : ℕ → Label V} {h : ℕ} (steps : Settles A B h) where
+  settle_same : (p : ℕ) → Same A B p
+  settle_same p =
+      at_or (Same A B) h (record { value = ap (λ x. x.value) steps.here; previous = ap (λ x. x.previous) steps.here; link = ap (λ x. x.link) steps.here }) p (λ ne. same_from A B p (steps.other p ne))
 
-    pub settle_done : Done B h
-    settle_done = ap (λ x. is_settled x.state) steps.here
+  pub settle_done : Done B h
+  settle_done = ap (λ x. is_settled x.state) steps.here
 
-    pub settle_on : (p : ℕ) → Done A p → Done B p
-    settle_on p d =
-        ⊎_elim
-        (λ e. subst (Done B) (sym e) settle_done)
-        (λ ne. subst (λ x. is_settled x.state ≡ true) (sym (steps.other p ne)) d)
-        (cases_eq p h)
+  pub settle_on : (p : ℕ) → Done A p → Done B p
+  settle_on p d = at_or (Done B) h settle_done p (λ ne. rw (steps.other p ne) d)
 
+  settle_back : (p : ℕ) → Done B p → Done A p ⊎ (p ≡ h)
+  settle_back p d = ⊎_elim inr (λ ne. inl (rw (steps.other p ne) at d)) (cases_eq p h)
+
+  module _ (waits : Waits A h) where
     settle_waits : (p : ℕ) → Waits B p → Waits A p
-    settle_waits p w =
-        ⊎_elim
-        (λ e. subst (Waits A) (sym e) waits)
-        (λ ne. subst (λ x. is_queued x.state ≡ true) (steps.other p ne) w)
-        (cases_eq p h)
-
-    settle_back : (p : ℕ) → Done B p → Done A p ⊎ (p ≡ h)
-    settle_back p d = ⊎_elim inr (λ ne. inl (subst (λ x. is_settled x.state ≡ true) (steps.other p ne) d)) (cases_eq p h)
+    settle_waits p w = at_or (Waits A) h waits p (λ ne. rw (steps.other p ne) at w)
 
     settle_held : (p : ℕ) → Held B p → Held A p
-    settle_held p d =
-        ⊎_elim
-        (λ w. waits_held _ (settle_waits p w))
-        (λ d. ⊎_elim (done_held _) (λ e. subst (Held A) (sym e) (waits_held _ waits)) (settle_back p d))
-        (held_cases _ d)
+    settle_held p d = at_or (Held A) h (waits_held _ waits) p (λ ne. rw (steps.other p ne) at d)
 
+module _ {V L : Type 0} {K : Kind V L} (laws : Laws K) {l : L} (adm : K.limit_admitted l ≡ true) {Lead : ℕ → ℕ → ℕ → V → Type 0} (links : (p s t : ℕ) (c : V) → Lead p s t c → Made K c) {k src dst : ℕ} {A : ℕ → Label V} (kept : Kept K l Lead k src dst A) where
+  -- the label at h, of first rank among the queued, is settled
+  module _ {B : ℕ → Label V} {h : ℕ} (steps : Settles A B h) (waits : Waits A h) (first : (q : ℕ) → Waits A q → ranks K l (A q).value (A h).value ≡ false) where
     settle_has : (t : ℕ) (w : V) → Has K l Lead k src dst A t w → Has K l Lead k src dst B t w
-    settle_has t w (p, at, held, d) = (
-      p,
-      at,
-      ⊎_elim
-          (λ e. subst (Held B) (sym e) (done_held _ settle_done))
-          (λ ne. subst (λ x. is_held x.state ≡ true) (sym (steps.other p ne)) held)
-          (cases_eq p h),
-      subst (λ x. K.dominates x w ≡ true) (sym (settle_same p).value) d,
-    )
+    settle_has t w (p, at, held, d) =
+        (p, at, at_or (Held B) h (done_held _ (settle_done steps)) p (λ ne. rw (steps.other p ne) held), rw (settle_same steps p).value d)
 
-    module _ (kept : Kept K l Lead k src dst A) (first : (q : ℕ) → Waits A q → ranks K l (A q).value (A h).value ≡ false) where
-      pub settle_kept : (In k dst h → ⊥) → Kept K l Lead k src dst B
-      settle_kept off = record {
-        fit = λ p held. subst (Fit K l) (sym (settle_same p).value) (kept.fit p (settle_held p held));
-        ordered = λ p q d w. subst₂ (λ x y. ranks K l x y ≡ false) (sym (settle_same q).value) (sym (settle_same p).value)
-            (⊎_elim
-            (λ da. kept.ordered p q da (settle_waits q w))
-            (λ e. subst (λ x. ranks K l (A q).value (A x).value ≡ false) (sym e) (first q (settle_waits q w)))
-            (settle_back p d));
-        apart = λ s p q ap aq hp hq ne. subst₂ (λ x y. K.dominates x y ≡ false) (sym (settle_same p).value) (sym (settle_same q).value) (kept.apart s p q ap aq (settle_held p hp) (settle_held q hq) ne);
-        chained = λ p held. let (qs, c) = kept.chained p (settle_held p held) in (qs, chain_keep laws l Lead links k src dst A B (λ q d. (settle_same q, settle_on q d)) qs p (settle_same p) c);
-        start = settle_has src K.empty kept.start;
-        ahead = λ p at d. ⊎_elim (kept.ahead p at) (λ e. off (subst (In k dst) e at)) (settle_back p d);
-      }
+    -- it ranks no earlier than those that were settled before
+    settle_order : (p q : ℕ) → Done B p → Waits A q → ranks K l (A q).value (A p).value ≡ false
+    settle_order p q d w = ⊎_elim (λ da. kept.ordered p q da w) (λ e. rw e (first q w)) (settle_back steps p d)
 
-      pub settle_last : Last K l Lead k src dst B h
-      settle_last p d =
-          subst₂ (λ x y. ranks K l x y ≡ false) (sym (settle_same h).value) (sym (settle_same p).value)
-          (⊎_elim
-          (λ da. kept.ordered p h da waits)
-          (λ e. subst (λ x. ranks K l (A h).value (A x).value ≡ false) (sym e) (first h waits))
-          (settle_back p d))
+    pub settle_kept : (In k dst h → ⊥) → Kept K l Lead k src dst B
+    settle_kept off = record {
+      fit = λ p held. rw (settle_same steps p).value (kept.fit p (settle_held steps waits p held));
+      ordered = λ p q d w. rw ((settle_same steps q).value, (settle_same steps p).value) (settle_order p q d (settle_waits steps waits q w));
+      apart = λ s p q ap aq hp hq ne. rw ((settle_same steps p).value, (settle_same steps q).value) (kept.apart s p q ap aq (settle_held steps waits p hp) (settle_held steps waits q hq) ne);
+      chained = λ p held. let (qs, c) = kept.chained p (settle_held steps waits p held) in (qs, chain_keep laws l Lead links k src dst A B (λ q d. (settle_same steps q, settle_on steps q d)) qs p (settle_same steps p) c);
+      start = settle_has src K.empty kept.start;
+      ahead = λ p at d. ⊎_elim (kept.ahead p at) (λ e. off (rw e at at)) (settle_back steps p d);
+    }
 
-      -- where what every settled label reaches was held
-      pub settle_spread : SpreadAll K l Lead k src dst A → Spread K l Lead k src dst B h 0
-      settle_spread all p s j t c d at lead low fits =
-          let e = (settle_same p).value in
-          subst (λ x. Has K l Lead k src dst B t (extend K x c)) (sym e)
-          (⊎_elim
-          (λ da. settle_has t (extend K (A p).value c) (all p s j t c da at lead (subst (λ x. K.within (extend K x c) l ≡ true) e fits)))
-          (λ same. absurd (none j (low same)))
-          (settle_back p d))
-        where
-          none : (j : ℕ) → j < 0 → ⊥
-          none j h = omega arith
+    pub settle_last : Last K l Lead k src dst B h
+    settle_last p d = rw ((settle_same steps h).value, (settle_same steps p).value) (settle_order p h d waits)
 
-  -- the link at i brings nothing, or what it brings is held
-  pub skip_spread : (A : ℕ → Label V) (h i : ℕ) → Spread K l Lead k src dst A h i → ((s t : ℕ) (c : V) → In k s h → Lead i s t c → K.within (extend K (A h).value c) l ≡ true → Has K l Lead k src dst A t (extend K (A h).value c)) → Spread K l Lead k src dst A h (i + 1)
-  skip_spread A h i spread here p s j t c d at lead low fits =
-      ⊎_elim
-      (λ e. ⊎_elim
-      (λ ji. subst (λ x. Has K l Lead k src dst A t (extend K (A x).value c)) (sym e) (here s t c (subst (In k s) e at) (subst (λ x. Lead x s t c) ji lead) (subst (λ x. K.within (extend K (A x).value c) l ≡ true) e fits)))
-      (λ ne. spread p s j t c d at lead (λ e. let lt = low e in let less : j < i = omega arith in less) fits)
-      (cases_eq j i))
-      (λ ne. spread p s j t c d at lead (λ e. absurd (ne e)) fits)
-      (cases_eq p h)
+    -- where what every settled label reaches was held
+    pub settle_spread : SpreadAll K l Lead k src dst A → Spread K l Lead k src dst B h 0
+    settle_spread all p s j t c d at lead low fits =
+        rw (settle_same steps p).value
+        (⊎_elim
+        (λ da. settle_has t (extend K (A p).value c) (all p s j t c da at lead (rw (settle_same steps p).value at fits)))
+        (λ same. let none = low same in absurd (omega arith))
+        (settle_back steps p d))
 
   -- the label at h, the last settled, is extended by the link at i to the value n at the site t, which no label held there dominates
-  module _ (A : ℕ → Label V) (kept : Kept K l Lead k src dst A) (h i s t : ℕ) (c : V) (done : Done A h) (last : Last K l Lead k src dst A h) (at : In k s h) (lead : Lead i s t c) (fits : K.within (extend K (A h).value c) l ≡ true) (fresh : (p : ℕ) → In k t p → Held A p → K.dominates (A p).value (extend K (A h).value c) ≡ false) where
+  module _ (h i s t : ℕ) (c : V) (done : Done A h) (last : Last K l Lead k src dst A h) (at : In k s h) (lead : Lead i s t c) (fits : K.within (extend K (A h).value c) l ≡ true) (fresh : (p : ℕ) → In k t p → Held A p → K.dominates (A p).value (extend K (A h).value c) ≡ false) where
     abbrev n : V
     n = extend K (A h).value c
 
@@ -127,20 +87,18 @@ module _ {V L : Type 0} {K : Kind V L} (laws : Laws K) (l : L) (adm : K.limit_ad
     after p d = rank_trans laws l adm (A p).value (A h).value n (kept.fit p (done_held _ d)) fit_h fit_n (last p d) (rank_extend laws l adm (A h).value c fit_h.made made_c fit_n)
 
     -- the newcomer dominates no settled label at its site
-    pub settled_stays : (p : ℕ) → In k t p → Done A p → K.dominates n (A p).value ≡ false
+    settled_stays : (p : ℕ) → In k t p → Done A p → K.dominates n (A p).value ≡ false
     settled_stays p ap d =
-        ⊎_elim
-        (λ yes. let fp = kept.fit p (done_held _ d) in
-        let e : (A p).value ≡ n = rank_antisym laws l adm (A p).value n fp fit_n (after p d) (rank_dom laws l adm n (A p).value fit_n fp yes) in
-        absurd (both_ways _ (fresh p ap (done_held _ d)) (subst (λ x. K.dominates (A p).value x ≡ true) e (laws.dom_refl (A p).value fp.made))))
-        (λ e. e)
-        (cases_Bool (K.dominates n (A p).value))
+        false_from_ne_true _
+        (λ over. let fp = kept.fit p (done_held _ d) in
+        let e : (A p).value ≡ n = rank_antisym laws l adm (A p).value n fp fit_n (after p d) (rank_dom laws l adm n (A p).value fit_n fp over) in
+        both_ways _ (fresh p ap (done_held _ d)) (subst (λ x. K.dominates (A p).value x ≡ true) e (laws.dom_refl (A p).value fp.made)))
 
     -- k labels held at t, none of which the newcomer dominates, and the newcomer
     pub crowded : ((p : ℕ) → In k t p → Held A p × (Waits A p → K.dominates n (A p).value ≡ false)) → Crowded K l Lead k src t
     crowded full = record {
       value = value;
-      walk = λ j lt. ⊎_elim (λ e. subst Walked (sym (ap (λ b. cond b (A (t * k + j)).value n) e)) (old j (ltb-true j k e))) (λ e. subst Walked (sym (ap (λ b. cond b (A (t * k + j)).value n) e)) new) (cases_Bool (ltb j k));
+      walk = λ j lt. cond_both (ltb j k) (A (t * k + j)).value n Walked (λ e. old j (ltb-true j k e)) (λ _. new);
       apart = λ j m lj lm ne. pick j m lj lm ne (cases_Bool (ltb j k)) (cases_Bool (ltb m k));
     }
       where
@@ -172,13 +130,9 @@ module _ {V L : Type 0} {K : Kind V L} (laws : Laws K) (l : L) (adm : K.limit_ad
         pick j m lj lm ne (inl e) (inl f) =
             let pj = inside j (ltb-true j k e) in
             let pm = inside m (ltb-true m k f) in
-            subst₂ (λ x y. K.dominates (cond x (A (t * k + j)).value n) (cond y (A (t * k + m)).value n) ≡ false) (sym e) (sym f) (kept.apart t (t * k + j) (t * k + m) pj pm (full _ pj).0 (full _ pm).0 (λ same. ne (omega arith)))
-        pick j m lj lm ne (inl e) (inr f) =
-            let pj = inside j (ltb-true j k e) in
-            subst₂ (λ x y. K.dominates (cond x (A (t * k + j)).value n) (cond y (A (t * k + m)).value n) ≡ false) (sym e) (sym f) (fresh (t * k + j) pj (full _ pj).0)
-        pick j m lj lm ne (inr e) (inl f) =
-            let pm = inside m (ltb-true m k f) in
-            subst₂ (λ x y. K.dominates (cond x (A (t * k + j)).value n) (cond y (A (t * k + m)).value n) ≡ false) (sym e) (sym f) (not_over (t * k + m) pm)
+            rw (e, f) (kept.apart t (t * k + j) (t * k + m) pj pm (full _ pj).0 (full _ pm).0 (λ same. ne (omega arith)))
+        pick j m lj lm ne (inl e) (inr f) = let pj = inside j (ltb-true j k e) in rw (e, f) (fresh (t * k + j) pj (full _ pj).0)
+        pick j m lj lm ne (inr e) (inl f) = rw (e, f) (not_over (t * k + m) (inside m (ltb-true m k f)))
         pick j m lj lm ne (inr e) (inr f) =
             let x = ltb-false j k e in
             let y = ltb-false m k f in
@@ -192,10 +146,10 @@ module _ {V L : Type 0} {K : Kind V L} (laws : Laws K) (l : L) (adm : K.limit_ad
       add_waits = ap (λ y. is_queued y.state) adds.new
 
       -- a settled label stays as it is
-      pub add_done : (p : ℕ) → Done A p → C p ≡ A p
+      add_done : (p : ℕ) → Done A p → C p ≡ A p
       add_done p d =
           ⊎_elim
-          (λ e. absurd (adds.free (subst (Done A) e d)))
+          (λ e. absurd (adds.free (rw e at d)))
           (λ ne. ⊎_elim (λ e. e) (λ g. absurd (not_both _ g.2 d)) (adds.other p ne))
           (cases_eq p x)
 
@@ -206,42 +160,38 @@ module _ {V L : Type 0} {K : Kind V L} (laws : Laws K) (l : L) (adm : K.limit_ad
           (cases_eq p x)
 
       -- a label that is settled after was so before
-      pub add_back : (p : ℕ) → Done C p → C p ≡ A p
-      add_back p d =
-          ⊎_elim
-          (λ e. absurd (not_both _ add_waits (subst (Done C) e d)))
-          (λ g. g.1)
-          (add_held p (done_held _ d))
+      add_back : (p : ℕ) → Done C p → C p ≡ A p
+      add_back p d = ⊎_elim (λ e. absurd (not_both _ add_waits (rw e at d))) (λ g. g.1) (add_held p (done_held _ d))
 
       add_done_back : (p : ℕ) → Done C p → Done A p
-      add_done_back p d = subst (λ y. is_settled y.state ≡ true) (add_back p d) d
+      add_done_back p d = rw (add_back p d) at d
 
       add_done_on : (p : ℕ) → Done A p → Done C p
-      add_done_on p d = subst (λ y. is_settled y.state ≡ true) (sym (add_done p d)) d
+      add_done_on p d = rw (add_done p d) d
 
       add_has : (u : ℕ) (w : V) → Made K w → Has K l Lead k src dst A u w → Has K l Lead k src dst C u w
       add_has u w mw (p, ap, held, d) =
           ⊎_elim
-          (λ e. over (subst (In k u) e ap) (adds.gone (subst (Held A) e held)) (subst (λ y. K.dominates (A y).value w ≡ true) e d) (kept.fit x (subst (Held A) e held)).made)
+          (λ e. over (rw e at ap) (adds.gone (rw e at held)) (rw e at d) (kept.fit x (rw e at held)).made)
           (λ ne. ⊎_elim
-          (λ e. (p, ap, subst (λ y. is_held y.state ≡ true) (sym e) held, subst (λ y. K.dominates y.value w ≡ true) (sym e) d))
+          (λ e. (p, ap, rw e held, rw e d))
           (λ g. over (subst (λ y. In k y x) (one_site k t u p g.1 ap) adds.inside) g.0 d (kept.fit p held).made)
           (adds.other p ne))
           (cases_eq p x)
         where
           over : {y : V} → In k u x → K.dominates n y ≡ true → K.dominates y w ≡ true → Made K y → Has K l Lead k src dst C u w
-          over {y} ux ny yw my = (x, ux, waits_held _ add_waits, subst (λ z. K.dominates z w ≡ true) (sym add_value) (laws.dom_trans n y w fit_n.made my mw ny yw))
+          over {y} ux ny yw my = (x, ux, waits_held _ add_waits, rw add_value (laws.dom_trans n y w fit_n.made my mw ny yw))
 
-      pub add_kept : Kept K l Lead k src dst C
+      add_kept : Kept K l Lead k src dst C
       add_kept = record {
-        fit = λ p held. ⊎_elim (λ e. subst (λ y. Fit K l (C y).value) (sym e) (subst (Fit K l) (sym add_value) fit_n)) (λ g. subst (λ y. Fit K l y.value) (sym g.1) (kept.fit p (subst (λ y. is_held y.state ≡ true) g.1 held))) (add_held p held);
-        ordered = λ p q d w. subst (λ y. ranks K l (C q).value y.value ≡ false) (sym (add_back p d))
+        fit = λ p held. ⊎_elim (λ e. rw e (rw add_value fit_n)) (λ g. rw (g.1) (kept.fit p (rw (g.1) at held))) (add_held p held);
+        ordered = λ p q d w. rw (add_back p d)
             (⊎_elim
-            (λ e. subst (λ y. ranks K l (C y).value (A p).value ≡ false) (sym e) (subst (λ y. ranks K l y (A p).value ≡ false) (sym add_value) (after p (add_done_back p d))))
-            (λ g. subst (λ y. ranks K l y.value (A p).value ≡ false) (sym g.1) (kept.ordered p q (add_done_back p d) (subst (λ y. is_queued y.state ≡ true) g.1 w)))
+            (λ e. rw e (rw add_value (after p (add_done_back p d))))
+            (λ g. rw (g.1) (kept.ordered p q (add_done_back p d) (rw (g.1) at w)))
             (add_held q (waits_held _ w)));
         apart = λ u p q pu qu hp hq ne. apart u p q pu qu hp hq ne (add_held p hp) (add_held q hq);
-        chained = λ p held. ⊎_elim (λ e. subst (λ y. (qs : List ℕ) × Chain K Lead k src C qs y) (sym e) chain_new) (λ g. let (qs, ch) = kept.chained p (subst (λ y. is_held y.state ≡ true) g.1 held) in (qs, chain_keep laws l Lead links k src dst A C keep qs p (same_from A C p g.1) ch)) (add_held p held);
+        chained = λ p held. ⊎_elim (λ e. rw e chain_new) (λ g. let (qs, ch) = kept.chained p (rw (g.1) at held) in (qs, chain_keep laws l Lead links k src dst A C keep qs p (same_from A C p g.1) ch)) (add_held p held);
         start = add_has src K.empty (made_empty) kept.start;
         ahead = λ p ap d. kept.ahead p ap (add_done_back p d);
       }
@@ -274,29 +224,21 @@ module _ {V L : Type 0} {K : Kind V L} (laws : Laws K) (l : L) (adm : K.limit_ad
           apart : (u p q : ℕ) → In k u p → In k u q → Held C p → Held C q → (p ≡ q → ⊥) → (p ≡ x) ⊎ ((p ≡ x → ⊥) × (C p ≡ A p)) → (q ≡ x) ⊎ ((q ≡ x → ⊥) × (C q ≡ A q)) → K.dominates (C p).value (C q).value ≡ false
           apart u p q pu qu hp hq ne (inl e) (inl f) = absurd (ne (e ∙ sym f))
           apart u p q pu qu hp hq ne (inl e) (inr g) =
-              let qt : In k t q = subst (λ y. In k y q) (one_site k u t x (subst (In k u) e pu) adds.inside) qu in
-              subst (λ y. K.dominates (C y).value (C q).value ≡ false) (sym e) (subst (λ y. K.dominates y (C q).value ≡ false) (sym add_value)
-              (⊎_elim
-              (λ w. adds.left q g.0 qt w)
-              (λ d. subst (λ y. K.dominates n y.value ≡ false) (sym g.1) (settled_stays q qt (add_done_back q d)))
-              (held_cases _ hq)))
+              let qt : In k t q = subst (λ y. In k y q) (one_site k u t x (rw e at pu) adds.inside) qu in
+              rw (e, add_value) (⊎_elim (adds.left q g.0 qt) (λ d. rw (g.1) (settled_stays q qt (add_done_back q d))) (held_cases _ hq))
           apart u p q pu qu hp hq ne (inr g) (inl f) =
-              let pt : In k t p = subst (λ y. In k y p) (one_site k u t x (subst (In k u) f qu) adds.inside) pu in
-              subst₂ (λ y z. K.dominates y.value (C z).value ≡ false) (sym g.1) (sym f) (subst (λ y. K.dominates (A p).value y ≡ false) (sym add_value) (fresh p pt (subst (λ y. is_held y.state ≡ true) g.1 hp)))
-          apart u p q pu qu hp hq ne (inr g) (inr f) =
-              subst₂ (λ y z. K.dominates y.value z.value ≡ false) (sym g.1) (sym f.1) (kept.apart u p q pu qu (subst (λ y. is_held y.state ≡ true) g.1 hp) (subst (λ y. is_held y.state ≡ true) f.1 hq) ne)
-
-      pub add_last : Last K l Lead k src dst C h
-      add_last p d = subst₂ (λ y z. ranks K l y.value z.value ≡ false) (sym (add_done h done)) (sym (add_back p d)) (last p (add_done_back p d))
+              let pt : In k t p = subst (λ y. In k y p) (one_site k u t x (rw f at qu) adds.inside) pu in
+              rw (g.1, f, add_value) (fresh p pt (rw (g.1) at hp))
+          apart u p q pu qu hp hq ne (inr g) (inr f) = rw (g.1, f.1) (kept.apart u p q pu qu (rw (g.1) at hp) (rw (f.1) at hq) ne)
 
       -- a place of the catalogue holds one link
-      pub add_spread : ((j s t s' t' : ℕ) (c c' : V) → Lead j s t c → Lead j s' t' c' → (t ≡ t') × (c ≡ c')) → Spread K l Lead k src dst A h i → Spread K l Lead k src dst C h (i + 1)
+      add_spread : ((j s t s' t' : ℕ) (c c' : V) → Lead j s t c → Lead j s' t' c' → (t ≡ t') × (c ≡ c')) → Spread K l Lead k src dst A h i → Spread K l Lead k src dst C h (i + 1)
       add_spread only spread p u j v b d ap ld low fit =
           let e = add_back p d in
           let da = add_done_back p d in
-          let fit' = subst (λ y. K.within (extend K y.value b) l ≡ true) e fit in
+          let fit' = rw e at fit in
           let mj = extend_made K (A p).value b (kept.fit p (done_held _ da)).made (links j u v b ld) in
-          subst (λ y. Has K l Lead k src dst C v (extend K y.value b)) (sym e)
+          rw e
           (⊎_elim
           (λ ph. ⊎_elim
           (λ ji. let (vt, bc) = only i s t u v c b lead (subst (λ y. Lead y u v b) ji ld) in
@@ -307,7 +249,22 @@ module _ {V L : Type 0} {K : Kind V L} (laws : Laws K) (l : L) (adm : K.limit_ad
           (cases_eq p h))
         where
           held_n : Has K l Lead k src dst C t n
-          held_n = (x, adds.inside, waits_held _ add_waits, subst (λ y. K.dominates y n ≡ true) (sym add_value) (laws.dom_refl n fit_n.made))
+          held_n = (x, adds.inside, waits_held _ add_waits, rw add_value (laws.dom_refl n fit_n.made))
+
+      -- all that is kept of the labels, and the label at h, which is as it was
+      pub added : ((j s t s' t' : ℕ) (c c' : V) → Lead j s t c → Lead j s' t' c' → (t ≡ t') × (c ≡ c')) → Spread K l Lead k src dst A h i → Kept K l Lead k src dst C × Done C h × Last K l Lead k src dst C h × Spread K l Lead k src dst C h (i + 1)
+      added only spread = (add_kept, add_done_on h done, λ p d. rw (add_done h done, add_back p d) (last p (add_done_back p d)), add_spread only spread)
+
+-- the link at i brings nothing, or what it brings is held
+pub skip_spread : {V L : Type 0} (K : Kind V L) (l : L) (Lead : ℕ → ℕ → ℕ → V → Type 0) (k src dst : ℕ) (A : ℕ → Label V) (h i : ℕ) → Spread K l Lead k src dst A h i → ((s t : ℕ) (c : V) → In k s h → Lead i s t c → K.within (extend K (A h).value c) l ≡ true → Has K l Lead k src dst A t (extend K (A h).value c)) → Spread K l Lead k src dst A h (i + 1)
+skip_spread K l Lead k src dst A h i spread here p s j t c d at lead low fits =
+    ⊎_elim
+    (λ e. ⊎_elim
+    (λ ji. rw e (here s t c (rw e at at) (subst (λ x. Lead x s t c) ji lead) (rw e at fits)))
+    (λ ne. spread p s j t c d at lead (λ e. let lt = low e in let less : j < i = omega arith in less) fits)
+    (cases_eq j i))
+    (λ ne. spread p s j t c d at lead (λ e. absurd (ne e)) fits)
+    (cases_eq p h)
 
 -- The end of the search, where what every settled label reaches is held.
 module _ {V L : Type 0} {K : Kind V L} (laws : Laws K) (l : L) (adm : K.limit_admitted l ≡ true) (Lead : ℕ → ℕ → ℕ → V → Type 0) (links : (p s t : ℕ) (c : V) → Lead p s t c → Made K c) (k src dst : ℕ) (A : ℕ → Label V) (kept : Kept K l Lead k src dst A) (all : SpreadAll K l Lead k src dst A) where

@@ -1,6 +1,6 @@
 -- The labels of routing, as a table from places to labels, and what is kept of them from turn to turn. All of this serves the proof of routing:
 -- what it promises in the end is said of walks alone.
-use Rattle.std.specs.Prelude.{◌≡◌, ℕ, ◌+◌, ◌*◌, ◌<◌, ◌≤◌, Bool, true, false, cond, ◌&&◌, ◌⊎◌, List, [], ◌∷◌, ◌++◌, Some, None, Option, MatchOption, ◌==◌, ◌≢◌, slice_index_or}
+use Rattle.std.specs.Prelude.{◌≡◌, ℕ, ◌+◌, ◌*◌, ◌<◌, ◌≤◌, Bool, true, false, not, cond, ◌&&◌, ◌⊎◌, List, [], ◌∷◌, ◌++◌, Some, None, Option, MatchOption, ◌≢◌, slice_index_or}
 use Rattle.measure.specs.Kind.{Kind}
 use Rattle.measure.specs.Ranks.{Fit, ranks}
 use Rattle.catalogue.specs.declared.Link.{Link}
@@ -134,9 +134,18 @@ module _ {V L : Type 0} (K : Kind V L) (l : L) (A : ℕ → Label V) where
   abbrev pub FirstBelow : ℕ → Option ℕ → Type 0
   FirstBelow i r = MatchOption r ((q : ℕ) → q < i → Waits A q → ⊥) (Leader i)
 
+  -- whether a value ranks before the leader's, or there is no leader
+  abbrev pub ahead : Option ℕ → V → Bool
+  ahead None v = true
+  ahead (Some b) v = ranks K l v (A b).value
+
 -- the label x is held, and its value dominates v
 abbrev pub covers : {V L : Type 0} → Kind V L → V → Label V → Bool
 covers K v x = is_held x.state && K.dominates x.value v
+
+-- the place of the label x is free
+abbrev pub is_free : {V : Type 0} → Label V → Bool
+is_free x = not (is_held x.state)
 
 -- the label x gives up its place to a newcomer of the value n
 abbrev pub yields : {V L : Type 0} → Kind V L → V → Label V → Bool
@@ -193,21 +202,6 @@ module _ {V L : Type 0} (K : Kind V L) (l : L) (cat : List (Option (Link V))) (k
     pub at : In k dst p
     pub waits : Waits A p
     pub first : First K l (Holds cat) src dst (A p).value
-
--- whether what stands at a place is a link from the site
-abbrev pub starts_at : {V : Type 0} → ℕ → Option (Link V) → Bool
-starts_at site None = false
-starts_at site (Some link) = link.start == site
-
--- the place p is the first from i on that holds a link from the site
-pub record Next {V : Type 0} (cat : List (Option (Link V))) (site i p : ℕ) : Type 0 where
-  pub low : i ≤ p
-  pub holds : (t : ℕ) × (c : V) × Holds cat p site t c
-  pub none : (j t : ℕ) (c : V) → i ≤ j → j < p → Holds cat j site t c → ⊥
-
--- which place is next: none where no place from i on holds a link from the site
-abbrev pub NextLink : {V : Type 0} → List (Option (Link V)) → ℕ → ℕ → Option ℕ → Type 0
-NextLink {V} cat site i r = MatchOption r ((j t : ℕ) (c : V) → i ≤ j → Holds cat j site t c → ⊥) (Next cat site i)
 
 -- no label below n is held
 abbrev pub Frees : {V : Type 0} → (ℕ → Label V) → ℕ → Type 0

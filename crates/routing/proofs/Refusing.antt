@@ -30,12 +30,13 @@ admits K sites room k ask row e =
       limit = not-false _ limited.0;
       size = eqb-true _ _ (not-false _ sizes.0);
       some = let one : 1 ≤ k = ltb-false k 1 ks.0 in omega arith;
+      few = ltb-false 64 k ks.1;
       fits = ltb-false _ _ fitting.0;
     }
 
-pub unrefused : (r : Result (Unit {0}) Refusal) (t : Option Refusal) → r ≡ unless t (Ok tt) → ((why : Refusal) → r ≡ Err why → ⊥) → t ≡ None
-unrefused r (Some why) e none = absurd (none why e)
-unrefused r None e none = refl
+pub unrefused : (done : Unit {0}) (t : Option Refusal) → ◌≡◌ {A = Result (Unit {0}) Refusal} (Ok done) (unless t (Ok tt)) → t ≡ None
+unrefused done (Some why) e = cc
+unrefused done None e = refl
 
 module _ {V L : Type 0} (K : Kind V L) (sites : ℕ) (links : List (Option (Link V))) (k : ℕ) (ask : Ask L) (labels : List (Label V)) (row : List ℕ) where
   abbrev Outcome : List (Label V) → List ℕ → Result (Option (Route V)) Refusal → Option Refusal → Type 0

@@ -1,6 +1,8 @@
 -- What the parts of routing find.
-use Rattle.std.specs.Prelude.{◌≡◌, ℕ, ◌*◌, ◌<◌, ◌≤◌, Bool, true, not, ◌&&◌, List, length, Some, None, Option, ◌==◌, nat_lt}
+use Rattle.std.specs.Prelude.{◌≡◌, ℕ, ◌*◌, ◌<◌, ◌≤◌, Bool, true, not, ◌&&◌, List, length, Some, None, Ok, Err, Option, Result, ◌==◌, nat_lt}
 use Rattle.measure.specs.Kind.{Kind}
+use Rattle.report.specs.declared.Refusal.{Refusal}
+use Rattle.report.specs.declared.Refusal.TheVariants.{LabelsFull}
 use Rattle.catalogue.specs.declared.Link.{Link}
 use Rattle.catalogue.specs.Walks.{Holds, Walk, Simple}
 use Rattle.catalogue.specs.Routes.{Outside, Crowded}
@@ -8,14 +10,16 @@ use Rattle.labels.specs.declared.Label.{Label}
 use Rattle.labels.specs.Labels.{Wins}
 use Rattle.routing.specs.Searching.{row_of}
 use Rattle.routing.specs.declared.Ask.{Ask}
-use Rattle.routing.specs.declared.Found.{Found}
-use Rattle.routing.specs.declared.Found.TheVariants.{Nowhere, Full, At}
 
--- what the end of routing says, where the labels are those of A
-abbrev pub EndsSo : {V L : Type 0} → Kind V L → L → List (Option (Link V)) → ℕ → ℕ → ℕ → (ℕ → Label V) → Found → Type 0
-EndsSo K l cat k src dst A Nowhere = Outside K l (Holds cat) src dst
-EndsSo K l cat k src dst A (Full t) = Crowded K l (Holds cat) k src t
-EndsSo K l cat k src dst A (At p) = Wins K l cat k src dst A p
+-- the refusal names a site whose labels are full
+abbrev pub Overfull : {V L : Type 0} → Kind V L → L → List (Option (Link V)) → ℕ → ℕ → Refusal → Type 0
+Overfull K l cat k src why = (site : ℕ) × (why ≡ LabelsFull site) × Crowded K l (Holds cat) k src site
+
+-- what the end of routing says, where the labels are those of A: the place of the first walk's label, or that no walk is within the limit
+abbrev pub EndsSo : {V L : Type 0} → Kind V L → L → List (Option (Link V)) → ℕ → ℕ → ℕ → (ℕ → Label V) → Result (Option ℕ) Refusal → Type 0
+EndsSo K l cat k src dst A (Ok (Some p)) = Wins K l cat k src dst A p
+EndsSo K l cat k src dst A (Ok None) = Outside K l (Holds cat) src dst
+EndsSo K l cat k src dst A (Err why) = Overfull K l cat k src why
 
 -- a link as a catalogue of so many sites may hold it
 abbrev pub sound_link : {V L : Type 0} → Kind V L → ℕ → Link V → Bool
@@ -36,4 +40,5 @@ pub record Admits {V L : Type 0} (K : Kind V L) (sites room k : ℕ) (ask : Ask 
   pub limit : K.limit_admitted ask.limit ≡ true
   pub size : room ≡ sites * k
   pub some : 0 < k
+  pub few : k ≤ 64
   pub fits : sites ≤ row

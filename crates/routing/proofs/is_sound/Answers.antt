@@ -1,31 +1,21 @@
-use Rattle.std.proofs.Common.{ℕ, ◌≤◌, length, sym, ap, ◌∙◌, arith, below_more}
-use Rattle.std.proofs.lemmas.Bool.{true≢false, false≢true}
+use Rattle.std.proofs.Common.{◌≡◌, ℕ, ◌<◌, true, false, sym, ap, ◌∙◌, subst, arith, rules, tests}
+use Rattle.std.proofs.lemmas.Bool.{MatchBool-at_true}
+use Rattle.std.proofs.lemmas.Iterator.{cases_from_all, YieldsList-from_range}
+use Rattle.std.proofs.lemmas.List.FromFn.{length-range_with_len, get_or-range_with_len}
 use Rattle.catalogue.specs.Places.{at}
 use Rattle.routing.specs.Finds.{sound_at}
-use Rattle.routing.proofs.Soundness.{sound_from, sound_refuted}
+use Rattle.routing.proofs.Soundness.{sound_from}
 use Rattle.routing.proofs.is_sound.Goals as goal
 
-pub returns-then-not-is_sound_at : goal.returns-then-not-is_sound_at
-returns-then-not-is_sound_at g c =
+pub returns-then-places-le4096-clause-yes : goal.returns-then-places-le4096-clause-yes
+returns-then-places-le4096-clause-yes g c good =
     let K = g.M.Measure.kind in
     let links = g.N.Links.links c.args.network.now in
-    record {
-      yes = λ e. absurd (false≢true e);
-      no = λ _. sound_refuted K (g.N.Links.span c.args.network.now) links c.loop-i.i
-          (ap (λ (s : ℕ). sound_at K s (at links c.loop-i.i)) (sym c.sites-sites.ensures) ∙ sym c.is_sound_at.ensures ∙ c.if-not-is_sound_at.true);
-    }
-
-pub loop-i-preserved : goal.loop-i-preserved
-loop-i-preserved g c = below_more _ _ c.loop-i.invariant (sym c.is_sound_at.ensures ∙ c.if-not-is_sound_at.false)
-
-pub returns : goal.returns
-returns g c =
-    let K = g.M.Measure.kind in
-    let links = g.N.Links.links c.args.network.now in
-    let few : g.N.Links.span c.args.network.now ≤ 256 = omega (arith, c.sites-sites.ensures) in
-    let short : length links ≤ 4096 = omega (arith, c.places-places.ensures) in
-    record {
-      yes = λ _. sound_from K (g.N.Links.span c.args.network.now) links few short
-          (λ p lt. ap (λ (s : ℕ). sound_at K s (at links p)) (sym c.sites-sites.ensures) ∙ c.loop-i.invariant p (omega (arith, c.places-places.ensures)));
-      no = λ e. absurd (true≢false e);
-    }
+    let sites = c.sites-sites.result in
+    let n = c.places-places.result in
+    let Good : ℕ → Type 0 = λ p. sound_at K sites (at links p) ≡ true in
+    let Bad : ℕ → Type 0 = λ p. sound_at K sites (at links p) ≡ false in
+    let each = MatchBool-at_true _ _ good (cases_from_all _ _ _ Good Bad c.all.ensures.ran (YieldsList-from_range 0 n n (search rules) (omega arith)) (λ x q k. search (rules, tests)) (λ x q k. search (rules, tests))) in
+    sound_from K (g.N.Links.span c.args.network.now) links (omega (arith, c.sites-sites.ensures)) (omega (arith, c.places-places.ensures))
+    (λ p lt. let here : p < n = omega (arith, c.places-places.ensures) in
+    ap (λ (s : ℕ). sound_at K s (at links p)) (sym c.sites-sites.ensures) ∙ subst Good (get_or-range_with_len 0 n p 0 here ∙ omega arith) (each p 0 (omega arith) (simp length-range_with_len here)))

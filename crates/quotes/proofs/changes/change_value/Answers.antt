@@ -37,9 +37,9 @@ returns-in_err-old g c =
     let told = c.in_err-old.ensures in
     let links = told.links ∙ ap (λ (r : Result (Link g.row.M.Denot) Refusal). elim r as (λ _. List (Option (Link g.row.M.Denot))) [ Ok old ↦ set n.links c.args.place (Some (revalued old c.args.value)) | Err _ ↦ n.links ]) (sym told.answer) in
     record {
-      outcome = moved (Changed K n b c.args.place c.args.value) is (same_network c.args.catalogue.now c.replace.new.self told.sites links) refl
+      outcome = moved (Changed K n b c.args.place c.args.value) is (same_network c.args.catalogue.now c.replace.new.self told.keeps.sites links) refl
           (change_refused why (first_passed (differ n b) cs c.in_ok-check_sites.ensures ∙ filled_refused (topmost cs) LinkEmpty (at n.links c.args.place) why (λ e. replace_some K n.links c.args.place c.args.value e) told.answer));
-      links = told.same;
+      links = told.keeps.same;
       places = (refl, refl);
     }
 
@@ -53,8 +53,8 @@ returns g c =
     let links = told.links ∙ ap (λ (r : Result (Link g.row.M.Denot) Refusal). elim r as (λ _. List (Option (Link g.row.M.Denot))) [ Ok old ↦ set n.links c.args.place (Some (revalued old c.args.value)) | Err _ ↦ n.links ]) (sym told.answer) in
     let passed = filled_passed (topmost cs) LinkEmpty (at n.links c.args.place) c.in_ok-old.old told.answer in
     record {
-      outcome = moved (Changed K n b c.args.place c.args.value) refl (same_network c.args.catalogue.now c.replace.new.self told.sites links) c.spread.ensures.book
+      outcome = moved (Changed K n b c.args.place c.args.value) refl (same_network c.args.catalogue.now c.replace.new.self told.keeps.sites links) c.spread.ensures.book
           (changed c.in_ok-old.old c.spread.result c.spread.new.book.cards.now (first_passed (differ n b) cs c.in_ok-check_sites.ensures ∙ passed.0) passed.1 c.spread.ensures.doubted);
-      links = told.same;
+      links = told.keeps.same;
       places = (c.spread.ensures.same_cards, c.spread.ensures.same_rows);
     }

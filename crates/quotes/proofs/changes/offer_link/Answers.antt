@@ -35,9 +35,9 @@ returns-in_err-store g c =
     let told = c.in_err-store.ensures in
     let links = told.links ∙ ap (λ (r : Result (Unit {0}) Refusal). elim r as (λ _. List (Option (Link g.row.M.Denot))) [ Ok _ ↦ set n.links c.args.place (Some c.args.link) | Err _ ↦ n.links ]) (sym told.answer) in
     record {
-      outcome = moved (Offered K n b c.args.place c.args.link) is (same_network c.args.catalogue.now c.store.new.self told.sites links) refl
+      outcome = moved (Offered K n b c.args.place c.args.link) is (same_network c.args.catalogue.now c.store.new.self told.keeps.sites links) refl
           (offer_refused why (first_passed (differ n b) cs c.in_ok-check_sites.ensures ∙ unless_tells (topmost cs) (Err why) told.answer));
-      links = told.same;
+      links = told.keeps.same;
       places = (refl, refl);
     }
 
@@ -51,8 +51,8 @@ returns g c =
     let links = told.links ∙ ap (λ (r : Result (Unit {0}) Refusal). elim r as (λ _. List (Option (Link g.row.M.Denot))) [ Ok _ ↦ set n.links c.args.place (Some c.args.link) | Err _ ↦ n.links ]) (sym told.answer) in
     let passed = unless_tells (topmost cs) (Ok tt) told.answer in
     record {
-      outcome = moved (Offered K n b c.args.place c.args.link) refl (same_network c.args.catalogue.now c.store.new.self told.sites links) c.spread.ensures.book
+      outcome = moved (Offered K n b c.args.place c.args.link) refl (same_network c.args.catalogue.now c.store.new.self told.keeps.sites links) c.spread.ensures.book
           (offered c.spread.result c.spread.new.book.cards.now (first_passed (differ n b) cs c.in_ok-check_sites.ensures ∙ passed) c.spread.ensures.doubted);
-      links = told.same;
+      links = told.keeps.same;
       places = (c.spread.ensures.same_cards, c.spread.ensures.same_rows);
     }

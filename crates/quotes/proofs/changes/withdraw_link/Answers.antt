@@ -37,9 +37,9 @@ returns-in_err-remove g c =
     let told = c.in_err-remove.ensures in
     let links = told.links ∙ ap (λ (r : Result (Link g.row.M.Denot) Refusal). elim r as (λ _. List (Option (Link g.row.M.Denot))) [ Ok _ ↦ set n.links c.args.place None | Err _ ↦ n.links ]) (sym told.answer) in
     record {
-      outcome = moved (Withdrawn K n b c.args.place) is (same_network c.args.catalogue.now c.remove.new.self told.sites links) refl
+      outcome = moved (Withdrawn K n b c.args.place) is (same_network c.args.catalogue.now c.remove.new.self told.keeps.sites links) refl
           (withdraw_refused why (first_passed (differ n b) cs c.in_ok-check_sites.ensures ∙ filled_refused (topmost cs) LinkEmpty (at n.links c.args.place) why (λ e. remove_some n.links c.args.place e) told.answer));
-      links = told.same;
+      links = told.keeps.same;
       places = (refl, refl);
     }
 
@@ -53,8 +53,8 @@ returns g c =
     let links = told.links ∙ ap (λ (r : Result (Link g.row.M.Denot) Refusal). elim r as (λ _. List (Option (Link g.row.M.Denot))) [ Ok _ ↦ set n.links c.args.place None | Err _ ↦ n.links ]) (sym told.answer) in
     let passed = filled_passed (topmost cs) LinkEmpty (at n.links c.args.place) c.in_ok-remove.field-0 told.answer in
     record {
-      outcome = moved (Withdrawn K n b c.args.place) refl (same_network c.args.catalogue.now c.remove.new.self told.sites links) c.spread.ensures.book
+      outcome = moved (Withdrawn K n b c.args.place) refl (same_network c.args.catalogue.now c.remove.new.self told.keeps.sites links) c.spread.ensures.book
           (withdrawn c.spread.result c.spread.new.book.cards.now (first_passed (differ n b) cs c.in_ok-check_sites.ensures ∙ passed.0) c.spread.ensures.doubted);
-      links = told.same;
+      links = told.keeps.same;
       places = (c.spread.ensures.same_cards, c.spread.ensures.same_rows);
     }
