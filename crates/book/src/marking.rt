@@ -1,10 +1,10 @@
 //! News of the catalogue's links goes from card to card.
 ghost use Rattle.std.specs.Prelude.{◌≡◌, ◌<◌, length, slice_set};
 ghost use Rattle.catalogue.specs.Places.{at};
-ghost use Rattle.cards.specs.Books.{with_cards};
-ghost use Rattle.cards.specs.Doubts.{lapsed, fell, strikes, Doubted};
+ghost use Rattle.cards.specs.Doubts.{lapsed, fell, strikes};
 ghost use Rattle.doubt.specs.News.{rule_of};
 ghost use Rattle.book.specs.Stores.{book_of, SamePlaces};
+ghost use Rattle.book.specs.Answers.{Spread};
 
 use crate::QuoteBook;
 use cards::MarkEvent;
@@ -33,8 +33,7 @@ fn mark_card<M: Measure>(book: &mut QuoteBook<'_, M, M::Limit>, place: usize, ne
 // Marks every card that the news strikes, and answers how many went from standing to doubtful. The places are counted: the rule asks the
 // whole quote book of each card, which no iterator over its cards can lend beside the card.
 pub fn spread<M: Measure>(book: &mut QuoteBook<'_, M, M::Limit>, news: News<M>) -> usize
-    ensures doubted { Doubted (rule_of M.Measure.kind news) (book_of book.old) book.new.cards.now result }
-    ensures book { book_of book.new ≡ with_cards (book_of book.old) book.new.cards.now }
+    ensures spread { Spread M.Measure.kind news (book_of book.old) result (book_of book.new) }
     ensures same { SamePlaces book.old book.new }
 {
     let mut count = 0;

@@ -48,8 +48,10 @@ pub returns : goal.returns
 returns g c =
     let inv = c.loop-place.invariant in
     record {
-      doubted = partly_all (rule_of g.M.Measure.kind c.args.news) (book_of c.args.book.now) c.loop-place.book.cards.now c.loop-place.place c.loop-place.count
-          c.loop-place-test.false c.loop-place.auto.place-end inv.partly;
-      book = same_book c.args.book.now c.loop-place.book.sites inv.sites inv.partly.places inv.rows;
+      spread = record {
+        doubted = partly_all (rule_of g.M.Measure.kind c.args.news) (book_of c.args.book.now) c.loop-place.book.cards.now c.loop-place.place c.loop-place.count
+            c.loop-place-test.false c.loop-place.auto.place-end inv.partly;
+        rest = same_book c.args.book.now c.loop-place.book.sites inv.sites inv.partly.places inv.rows;
+      };
       same = inv.same;
     }
