@@ -1,17 +1,24 @@
--- What the parts of a quote and of a recheck leave.
-use Rattle.std.specs.Prelude.{◌≡◌, ℕ, ◌≤◌, List, length, Some, Ok, Err, Option, Result}
+-- What the parts of the calls leave.
+use Rattle.std.specs.Prelude.{◌≡◌, ℕ, ◌≤◌, Bool, List, [], ◌∷◌, length, Some, Ok, Err, Option, Result}
 use Rattle.std.proofs.Math.Seq.{paste}
 use Rattle.measure.specs.Kind.{Kind}
 use Rattle.report.specs.declared.Mark.{Mark}
 use Rattle.report.specs.declared.Refusal.{Refusal}
-use Rattle.report.specs.declared.Refusal.TheVariants.{LabelsFull}
+use Rattle.report.specs.declared.Refusal.TheVariants.{NoSuchSite, LimitNotAdmitted, LabelsFull}
 use Rattle.catalogue.specs.declared.Link.{Link}
 use Rattle.routing.specs.declared.Ask.{Ask}
 use Rattle.routing.specs.declared.Route.{Route}
 use Rattle.routing.specs.Searching.{row_of}
 use Rattle.cards.specs.declared.Card.{Card}
-use Rattle.cards.specs.Books.{Network, Book, with_card}
-use Rattle.cards.specs.Calls.{Found, Overfull}
+use Rattle.cards.specs.Books.{Network, Book, with_cards, with_card}
+use Rattle.cards.specs.Doubts.{Doubted}
+use Rattle.cards.specs.Calls.{ends_out, limit_out, Found, Overfull}
+use Rattle.doubt.specs.declared.News.{News}
+use Rattle.doubt.specs.News.{rule_of}
+
+-- why what is asked is refused, of a quote and of a recheck
+abbrev pub ask_causes : {V L : Type 0} → Kind V L → Network V → Ask L → List (Bool × Refusal)
+ask_causes K n ask = (ends_out n ask, NoSuchSite) ∷ (limit_out K ask, LimitNotAdmitted) ∷ []
 
 -- a catalogue of so many sites that holds these links
 abbrev pub network_with : {V : Type 0} → ℕ → List (Option (Link V)) → Network V
@@ -31,3 +38,8 @@ RowAnswer K n k ask rows start width (Err why) rows' = (site : ℕ) × (why ≡ 
 abbrev pub CardAnswer : {V L : Type 0} → Kind V L → Network V → ℕ → Ask L → Mark → Book V L → ℕ → Result (Option (Route V)) Refusal → Book V L → Type 0
 CardAnswer K n k ask mark b card (Ok answer) b' = (legs : List ℕ) × Found K n ask answer legs × (b' ≡ with_card b card (Some (card_of ask answer mark)) legs)
 CardAnswer K n k ask mark b card (Err why) b' = (site : ℕ) × (why ≡ LabelsFull site) × Overfull K n ask k site × (b' ≡ b)
+
+-- the quote book after news of a link, and how many of its cards went from standing to doubtful
+pub record Spread {V L : Type 0} (K : Kind V L) (news : News V) (b : Book V L) (count : ℕ) (b' : Book V L) : Type 0 where
+  pub doubted : Doubted (rule_of K news) b b'.cards count
+  pub rest : b' ≡ with_cards b b'.cards

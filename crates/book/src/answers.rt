@@ -1,16 +1,17 @@
 //! The calls that look for a card's best route.
-ghost use Rattle.std.specs.Prelude.{◌≡◌, ◌+◌, ◌<◌, ◌≤◌, ◌||◌, [], ◌∷◌, length, drop, None, Ok, nat_le};
+ghost use Rattle.std.specs.Prelude.{◌≡◌, ◌+◌, ◌<◌, ◌≤◌, [], ◌∷◌, length, drop, None, Ok};
 ghost use Rattle.report.specs.declared.Refusal.TheVariants.{CardEmpty};
 ghost use Rattle.report.specs.Refusals.{topmost, unless, filled_or};
 ghost use Rattle.catalogue.specs.Places.{at};
 ghost use Rattle.routing.specs.Searching.{route_causes};
 ghost use Rattle.cards.specs.Calls.{Emptied, differ, quote_causes, recheck_causes, Quoted, Rechecked};
 ghost use Rattle.book.specs.Stores.{network_of, book_of, SamePlaces};
-ghost use Rattle.book.specs.Answers.{network_with, RowAnswer, CardAnswer};
+ghost use Rattle.book.specs.Answers.{ask_causes, network_with, RowAnswer, CardAnswer};
 
+use crate::entries::filled;
 use crate::{QuoteBook, write_place};
 use cards::{Card, MarkEvent};
-use catalogue::{Catalogue, Links, read_place};
+use catalogue::{Catalogue, Links};
 use doubt::next_mark;
 use labels::Label;
 use measure::Measure;
@@ -24,17 +25,25 @@ pub fn check_sites<M: Measure>(
 ) -> Result<(), Refusal>
     ensures { result ≡ unless (topmost (differ (network_of catalogue.now) (book_of book.now) ∷ [])) (Ok tt) }
 {
-    if book.width() != catalogue.sites() {
-        return Err(Refusal::SitesDiffer);
+    if book.width() == catalogue.sites() {
+        Ok(())
+    } else {
+        Err(Refusal::SitesDiffer)
     }
-    Ok(())
 }
 
-// Whether an end of what is asked is no site.
-fn ends_out<L: Copy>(sites: usize, ask: Ask<L>) -> bool
-    ensures { result ≡ (nat_le sites ask.source || nat_le sites ask.destination) }
+// Whether what is asked has both its ends in the catalogue, and an admitted limit.
+fn check_ask<M: Measure>(catalogue: &Catalogue<'_, M>, ask: Ask<M::Limit>) -> Result<(), Refusal>
+    ensures { result ≡ unless (topmost (ask_causes M.Measure.kind (network_of catalogue.now) ask)) (Ok tt) }
 {
-    ask.source as usize >= sites || ask.destination as usize >= sites
+    let sites = catalogue.sites();
+    if ask.source as usize >= sites || ask.destination as usize >= sites {
+        return Err(Refusal::NoSuchSite);
+    }
+    if !M::limit_admitted(ask.limit) {
+        return Err(Refusal::LimitNotAdmitted);
+    }
+    Ok(())
 }
 
 // Why a quote is refused before it begins, the number of sites aside, or that it is not.
@@ -48,20 +57,12 @@ fn check_quote<M: Measure>(
 ) -> Result<(), Refusal>
     ensures { result ≡ unless (topmost (drop 1 (quote_causes M.Measure.kind (network_of catalogue.now) (book_of book.now) room card ask k))) (Ok tt) }
 {
-    let sites = catalogue.sites();
-    if card >= book.cards.len() {
-        return Err(Refusal::NoSuchCard);
-    }
-    if ends_out(sites, ask) {
-        return Err(Refusal::NoSuchSite);
-    }
-    if !M::limit_admitted(ask.limit) {
-        return Err(Refusal::LimitNotAdmitted);
-    }
-    if read_place(book.cards, card).is_some() {
+    let place = *book.cards.get(card).ok_or(Refusal::NoSuchCard)?;
+    check_ask(catalogue, ask)?;
+    if place.is_some() {
         return Err(Refusal::CardFilled);
     }
-    if is_ill_sized(sites, room, k) {
+    if is_ill_sized(catalogue.sites(), room, k) {
         return Err(Refusal::WorkspaceSize);
     }
     Ok(())
@@ -77,21 +78,9 @@ fn check_recheck<M: Measure>(
 ) -> Result<Card<M, M::Limit>, Refusal>
     ensures { result ≡ unless (topmost (drop 1 (recheck_causes M.Measure.kind (network_of catalogue.now) (book_of book.now) room card k))) (filled_or CardEmpty (at book.now.cards.now card)) }
 {
-    let sites = catalogue.sites();
-    if card >= book.cards.len() {
-        return Err(Refusal::NoSuchCard);
-    }
-    let Some(it) = read_place(book.cards, card) else {
-        return Err(Refusal::CardEmpty);
-    };
-    let ask = it.ask;
-    if ends_out(sites, ask) {
-        return Err(Refusal::NoSuchSite);
-    }
-    if !M::limit_admitted(ask.limit) {
-        return Err(Refusal::LimitNotAdmitted);
-    }
-    if is_ill_sized(sites, room, k) {
+    let it = filled(book, card)?;
+    check_ask(catalogue, it.ask)?;
+    if is_ill_sized(catalogue.sites(), room, k) {
         return Err(Refusal::WorkspaceSize);
     }
     Ok(it)

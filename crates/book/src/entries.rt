@@ -10,7 +10,6 @@ ghost use Rattle.book.specs.Stores.{book_of, SamePlaces};
 
 use crate::{QuoteBook, front, row_of, write_place};
 use cards::Card;
-use catalogue::read_place;
 use doubt::leg_count;
 use report::{Mark, Refusal};
 use routing::Route;
@@ -22,13 +21,10 @@ pub(crate) fn filled<M: Copy, L: Copy>(
 ) -> Result<Card<M, L>, Refusal>
     ensures { result ≡ unless (topmost (discard_causes (book_of book.now) card)) (filled_or CardEmpty (at book.now.cards.now card)) }
 {
-    if card >= book.cards.len() {
-        return Err(Refusal::NoSuchCard);
-    }
-    match read_place(book.cards, card) {
-        Some(it) => Ok(it),
-        None => Err(Refusal::CardEmpty),
-    }
+    book.cards
+        .get(card)
+        .ok_or(Refusal::NoSuchCard)?
+        .ok_or(Refusal::CardEmpty)
 }
 
 // Zeros the numbers from the start place on.
@@ -36,8 +32,7 @@ fn clear_row(rows: &mut [u16], start: usize, width: usize)
     requires { start + width ≤ length rows.old }
     ensures { rows.new ≡ paste rows.old start (row_of [] width) width }
 {
-    let row = &mut rows[start..start + width];
-    row.fill(0);
+    rows[start..start + width].fill(0);
 }
 
 fn empty_card<M: Copy, L: Copy>(book: &mut QuoteBook<'_, M, L>, card: usize) -> Result<(), Refusal>
@@ -72,8 +67,7 @@ fn copy_into(numbers: &[u16], reply: &mut [u16], start: usize)
     requires { start + length numbers.now ≤ length reply.old }
     ensures { reply.new ≡ paste reply.old start numbers.now (length numbers.now) }
 {
-    let part = &mut reply[start..start + numbers.len()];
-    part.copy_from_slice(numbers);
+    reply[start..start + numbers.len()].copy_from_slice(numbers);
 }
 
 fn show_card<M: Copy, L: Copy>(

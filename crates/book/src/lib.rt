@@ -33,10 +33,11 @@ pub struct QuoteBook<'a, M, L> {
 pub fn check_book_size(sites: usize, cards: usize, rows: usize) -> Result<(), Refusal>
     ensures { result ≡ book_size_answer sites cards rows }
 {
-    if cards < 1 || 256 < cards || cards.checked_mul(sites) != Some(rows) {
-        return Err(Refusal::QuoteBookSize);
+    if (1..=256).contains(&cards) && cards.checked_mul(sites) == Some(rows) {
+        Ok(())
+    } else {
+        Err(Refusal::QuoteBookSize)
     }
-    Ok(())
 }
 
 // How many numbers a card's row has: one for each site, and none where the rows are of another size.
@@ -55,7 +56,7 @@ fn row_width(sites: usize, cards: usize, rows: usize) -> usize
 fn front(numbers: &[u16], count: usize) -> &[u16]
     ensures { result.now ≡ take count numbers.now }
 {
-    &numbers[0..count.min(numbers.len())]
+    numbers.get(..count).unwrap_or(numbers)
 }
 
 // The row of a card: empty past the last.
@@ -70,12 +71,7 @@ fn row_of(rows: &[u16], width: usize, card: usize) -> &[u16]
 fn uses_leg(legs: &[u16], link: usize) -> bool
     ensures { result ≡ uses legs.now link }
 {
-    for leg in legs {
-        if *leg as usize == link {
-            return true;
-        }
-    }
-    false
+    legs.iter().any(|leg| *leg as usize == link)
 }
 
 fn write_place<T: Copy>(places: &mut [Option<T>], place: usize, what: Option<T>)

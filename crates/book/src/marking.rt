@@ -1,13 +1,14 @@
 //! News of the catalogue's links goes from card to card.
 ghost use Rattle.std.specs.Prelude.{◌≡◌, ◌<◌, length, slice_set};
 ghost use Rattle.catalogue.specs.Places.{at};
-ghost use Rattle.cards.specs.Books.{with_cards};
-ghost use Rattle.cards.specs.Doubts.{lapsed, fell, strikes, Doubted};
+ghost use Rattle.cards.specs.Doubts.{lapsed, fell, strikes};
 ghost use Rattle.doubt.specs.News.{rule_of};
-ghost use Rattle.book.specs.Stores.{book_of};
+ghost use Rattle.book.specs.Stores.{book_of, SamePlaces};
+ghost use Rattle.book.specs.Answers.{Spread};
 
 use crate::QuoteBook;
-use doubt::{Cards, News, after_news, is_struck};
+use cards::MarkEvent;
+use doubt::{News, after_news, falls, is_struck};
 use measure::Measure;
 
 // Marks the card at the place where the news strikes it, and answers whether it went from standing to doubtful.
@@ -17,28 +18,27 @@ fn mark_card<M: Measure>(book: &mut QuoteBook<'_, M, M::Limit>, place: usize, ne
     ensures fell { result ≡ fell (strikes (rule_of M.Measure.kind news) (book_of book.old) place) (at book.old.cards.now place) }
     ensures rows { book.new.rows.now ≡ book.old.rows.now }
     ensures sites { book.new.sites ≡ book.old.sites }
-    ensures same_cards { book.new.cards.ghost_name ≡ book.old.cards.ghost_name }
-    ensures same_rows { book.new.rows.ghost_name ≡ book.old.rows.ghost_name }
+    ensures same { SamePlaces book.old book.new }
 {
-    let struck = is_struck(&*book, place, news);
-    let was = book.card(place);
-    let (after, fell) = after_news(was, struck);
-    book.cards[place] = after;
-    fell
+    let event = if is_struck(&*book, place, news) {
+        MarkEvent::Struck
+    } else {
+        MarkEvent::Spared
+    };
+    let was = book.cards[place];
+    book.cards[place] = after_news(was, event);
+    falls(was, event)
 }
 
-// Marks every card that the news strikes, and answers how many went from standing to doubtful.
+// Marks every card that the news strikes, and answers how many went from standing to doubtful. The places are counted: the rule asks the
+// whole quote book of each card, which no iterator over its cards can lend beside the card.
 pub fn spread<M: Measure>(book: &mut QuoteBook<'_, M, M::Limit>, news: News<M>) -> usize
-    ensures doubted { Doubted (rule_of M.Measure.kind news) (book_of book.old) book.new.cards.now result }
-    ensures book { book_of book.new ≡ with_cards (book_of book.old) book.new.cards.now }
-    ensures same_cards { book.new.cards.ghost_name ≡ book.old.cards.ghost_name }
-    ensures same_rows { book.new.rows.ghost_name ≡ book.old.rows.ghost_name }
+    ensures spread { Spread M.Measure.kind news (book_of book.old) result (book_of book.new) }
+    ensures same { SamePlaces book.old book.new }
 {
     let mut count = 0;
     for place in 0..book.cards.len() {
-        if mark_card(book, place, news) {
-            count += 1;
-        }
+        count += usize::from(mark_card(book, place, news));
     }
     count
 }

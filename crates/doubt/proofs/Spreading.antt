@@ -5,15 +5,15 @@ use Rattle.std.proofs.lemmas.List.{get_or_past}
 use Rattle.catalogue.specs.Places.{at}
 use Rattle.cards.specs.declared.Card.{Card}
 use Rattle.cards.specs.Books.{Book}
-use Rattle.cards.specs.Doubts.{Rule, lapsed, fell, tally, strikes, Doubted}
-use Rattle.doubt.specs.News.{struck_in, either}
+use Rattle.cards.specs.Doubts.{Rule, event_of, lapsed, fell, tally, strikes, Doubted}
+use Rattle.doubt.specs.News.{struck_in, after, falls}
 
--- what is known of a card place by whether its card is struck
-pub lapsed_so : {V L : Type 0} (rule : Rule V L) (b : Book V L) (c : ℕ) (place : Option (Card V L)) → lapsed (either (struck_in rule b c place)) place ≡ lapsed (strikes rule b c) place
+-- what becomes of a card place is told by whether its card is struck
+pub lapsed_so : {V L : Type 0} (rule : Rule V L) (b : Book V L) (c : ℕ) (place : Option (Card V L)) → after (event_of (struck_in rule b c place)) place ≡ lapsed (strikes rule b c) place
 lapsed_so rule b c None = refl
 lapsed_so rule b c (Some card) = refl
 
-pub fell_so : {V L : Type 0} (rule : Rule V L) (b : Book V L) (c : ℕ) (place : Option (Card V L)) → fell (either (struck_in rule b c place)) place ≡ fell (strikes rule b c) place
+pub fell_so : {V L : Type 0} (rule : Rule V L) (b : Book V L) (c : ℕ) (place : Option (Card V L)) → falls (event_of (struck_in rule b c place)) place ≡ fell (strikes rule b c) place
 fell_so rule b c None = refl
 fell_so rule b c (Some card) = refl
 

@@ -1,10 +1,11 @@
 -- Which rule goes with which news.
-use Rattle.std.specs.Prelude.{ℕ, Bool, false, Some, None, Option}
+use Rattle.std.specs.Prelude.{ℕ, Bool, false, not, ◌&&◌, Some, None, Option}
 use Rattle.measure.specs.Kind.{Kind}
 use Rattle.catalogue.specs.Places.{at}
 use Rattle.cards.specs.declared.Card.{Card}
+use Rattle.cards.specs.declared.MarkEvent.{MarkEvent}
 use Rattle.cards.specs.Books.{Book}
-use Rattle.cards.specs.Doubts.{Rule, struck_by_offer, struck_by_change, struck_by_withdrawal, strikes}
+use Rattle.cards.specs.Doubts.{Rule, struck_by_offer, struck_by_change, struck_by_withdrawal, strikes, next, is_standing, marked}
 use Rattle.doubt.specs.declared.News.{News}
 use Rattle.doubt.specs.declared.News.TheVariants.{Offered, Changed, Withdrawn}
 
@@ -23,6 +24,12 @@ struck_in rule b c (Some card) = strikes rule b c card
 abbrev pub struck_at : {V L : Type 0} → Rule V L → Book V L → ℕ → Bool
 struck_at rule b c = struck_in rule b c (at b.cards c)
 
--- the same for every card
-abbrev pub either : {V L : Type 0} → Bool → Card V L → Bool
-either struck card = struck
+-- what stands at a card place after what happened to its card
+abbrev pub after : {V L : Type 0} → MarkEvent → Option (Card V L) → Option (Card V L)
+after event None = None
+after event (Some card) = Some (marked card (next card.mark event))
+
+-- whether the card there went from standing to doubtful by it
+abbrev pub falls : {V L : Type 0} → MarkEvent → Option (Card V L) → Bool
+falls event None = false
+falls event (Some card) = is_standing card.mark && not (is_standing (next card.mark event))

@@ -4,8 +4,8 @@
 ghost use Rattle.std.specs.Prelude.{◌≡◌, take};
 ghost use Rattle.catalogue.specs.Places.{at};
 ghost use Rattle.cards.specs.Books.{Book, row_at, leg_count};
-ghost use Rattle.cards.specs.Doubts.{uses, threatens, next, is_standing, lapsed, fell};
-ghost use Rattle.doubt.specs.News.{rule_of, struck_at, either};
+ghost use Rattle.cards.specs.Doubts.{uses, threatens, next, strikes};
+ghost use Rattle.doubt.specs.News.{rule_of, struck_at, after, falls};
 
 use cards::{Card, MarkEvent};
 use measure::{Measure, ranks_before};
@@ -48,42 +48,29 @@ pub fn next_mark(mark: Mark, event: MarkEvent) -> Mark
     }
 }
 
-fn is_standing(mark: Mark) -> bool
-    ensures { result ≡ is_standing mark }
-{
-    match mark {
-        Mark::Standing => true,
-        Mark::Doubtful => false,
-    }
-}
-
 // Whether a link of this value, new in the catalogue, can be part of a better walk than the answer.
 fn is_threat<M: Measure>(limit: M::Limit, answer: Option<Route<M>>, value: M) -> bool
     ensures { result ≡ threatens M.Measure.kind limit answer value }
 {
-    match answer {
-        None => value.within(limit),
-        Some(route) => value.within(limit) && ranks_before(value, route.value, limit),
-    }
+    value.within(limit) && answer.is_none_or(|route| ranks_before(value, route.value, limit))
 }
 
 // How many legs an answer has.
 pub fn leg_count<M: Copy>(answer: Option<Route<M>>) -> usize
     ensures { result ≡ leg_count answer }
 {
-    match answer {
-        None => 0,
-        Some(route) => route.legs,
-    }
+    answer.map_or(0, |route| route.legs)
 }
 
-// Whether the news strikes the card at the place: an empty place is not struck.
-pub fn is_struck<M: Measure, B: Cards<M, M::Limit>>(book: &B, place: usize, news: News<M>) -> bool
-    ensures { result ≡ struck_at (rule_of M.Measure.kind news) (B.Cards.book book.now) place }
+// Whether the news strikes this card of the place.
+fn strikes<M: Measure, B: Cards<M, M::Limit>>(
+    book: &B,
+    place: usize,
+    card: Card<M, M::Limit>,
+    news: News<M>,
+) -> bool
+    ensures { result ≡ strikes (rule_of M.Measure.kind news) (B.Cards.book book.now) place card }
 {
-    let Some(card) = book.card(place) else {
-        return false;
-    };
     let limit = card.ask.limit;
     let answer = card.answer;
     let legs = leg_count(answer);
@@ -102,26 +89,32 @@ pub fn is_struck<M: Measure, B: Cards<M, M::Limit>>(book: &B, place: usize, news
     }
 }
 
-// A card place after news that strikes its card or does not, and whether the card went from standing to doubtful.
+// Whether the news strikes the card at the place: an empty place is not struck.
+pub fn is_struck<M: Measure, B: Cards<M, M::Limit>>(book: &B, place: usize, news: News<M>) -> bool
+    ensures { result ≡ struck_at (rule_of M.Measure.kind news) (B.Cards.book book.now) place }
+{
+    book.card(place)
+        .is_some_and(|card| strikes(book, place, card, news))
+}
+
+// A card place after what happened to its card.
 pub fn after_news<M: Copy, L: Copy>(
     place: Option<Card<M, L>>,
-    struck: bool,
-) -> (Option<Card<M, L>>, bool)
-    ensures card { result.0 ≡ lapsed (either struck) place }
-    ensures fell { result.1 ≡ fell (either struck) place }
+    event: MarkEvent,
+) -> Option<Card<M, L>>
+    ensures { result ≡ after event place }
 {
-    let Some(card) = place else {
-        return (None, false);
-    };
-    let event = if struck {
-        MarkEvent::Struck
-    } else {
-        MarkEvent::Spared
-    };
-    let was = card.mark;
-    let mark = next_mark(was, event);
-    (
-        Some(Card { mark, ..card }),
-        is_standing(was) && !is_standing(mark),
-    )
+    place.map(|card| Card {
+        mark: next_mark(card.mark, event),
+        ..card
+    })
+}
+
+// Whether the card at a place goes from standing to doubtful by it.
+pub fn falls<M: Copy, L: Copy>(place: Option<Card<M, L>>, event: MarkEvent) -> bool
+    ensures { result ≡ falls event place }
+{
+    place.is_some_and(|card| {
+        card.mark == Mark::Standing && next_mark(card.mark, event) == Mark::Doubtful
+    })
 }

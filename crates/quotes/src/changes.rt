@@ -8,7 +8,9 @@ use doubt::News;
 use measure::Measure;
 use report::Refusal;
 
-fn offer_link<M: Measure>(
+// Offers a link for an empty place, and answers how many cards went from standing to doubtful.
+#[tactic(auto, using(crate::proofs::Outcomes::endings))]
+pub fn offer<M: Measure>(
     catalogue: &mut Catalogue<'_, M>,
     book: &mut QuoteBook<'_, M, M::Limit>,
     place: usize,
@@ -23,21 +25,9 @@ fn offer_link<M: Measure>(
     Ok(spread(book, News::Offered { value: link.value }))
 }
 
-// Offers a link for an empty place, and answers how many cards went from standing to doubtful.
-pub fn offer<M: Measure>(
-    catalogue: &mut Catalogue<'_, M>,
-    book: &mut QuoteBook<'_, M, M::Limit>,
-    place: usize,
-    link: Link<M>,
-) -> Result<usize, Refusal>
-    ensures outcome { Offered M.Measure.kind (network_of catalogue.old) (book_of book.old) place link result (network_of catalogue.new) (book_of book.new) }
-    ensures links { SameLinks catalogue.old catalogue.new }
-    ensures places { SamePlaces book.old book.new }
-{
-    offer_link(catalogue, book, place, link)
-}
-
-fn change_value<M: Measure>(
+// Gives the link at the place another value, and answers how many cards went from standing to doubtful.
+#[tactic(auto, using(crate::proofs::Outcomes::endings))]
+pub fn change<M: Measure>(
     catalogue: &mut Catalogue<'_, M>,
     book: &mut QuoteBook<'_, M, M::Limit>,
     place: usize,
@@ -59,21 +49,9 @@ fn change_value<M: Measure>(
     ))
 }
 
-// Gives the link at the place another value, and answers how many cards went from standing to doubtful.
-pub fn change<M: Measure>(
-    catalogue: &mut Catalogue<'_, M>,
-    book: &mut QuoteBook<'_, M, M::Limit>,
-    place: usize,
-    value: M,
-) -> Result<usize, Refusal>
-    ensures outcome { Changed M.Measure.kind (network_of catalogue.old) (book_of book.old) place value result (network_of catalogue.new) (book_of book.new) }
-    ensures links { SameLinks catalogue.old catalogue.new }
-    ensures places { SamePlaces book.old book.new }
-{
-    change_value(catalogue, book, place, value)
-}
-
-fn withdraw_link<M: Measure>(
+// Takes the link at the place away, and answers how many cards went from standing to doubtful.
+#[tactic(auto, using(crate::proofs::Outcomes::endings))]
+pub fn withdraw<M: Measure>(
     catalogue: &mut Catalogue<'_, M>,
     book: &mut QuoteBook<'_, M, M::Limit>,
     place: usize,
@@ -85,17 +63,4 @@ fn withdraw_link<M: Measure>(
     check_sites(&*catalogue, &*book)?;
     catalogue.remove(place)?;
     Ok(spread(book, News::Withdrawn { place }))
-}
-
-// Takes the link at the place away, and answers how many cards went from standing to doubtful.
-pub fn withdraw<M: Measure>(
-    catalogue: &mut Catalogue<'_, M>,
-    book: &mut QuoteBook<'_, M, M::Limit>,
-    place: usize,
-) -> Result<usize, Refusal>
-    ensures outcome { Withdrawn M.Measure.kind (network_of catalogue.old) (book_of book.old) place result (network_of catalogue.new) (book_of book.new) }
-    ensures links { SameLinks catalogue.old catalogue.new }
-    ensures places { SamePlaces book.old book.new }
-{
-    withdraw_link(catalogue, book, place)
 }

@@ -1,20 +1,15 @@
-use Rattle.std.proofs.Common.{◌+◌, ◌||◌, drop, sym, ap, ◌∙◌, arith}
-use Rattle.std.proofs.lemmas.List.{at_drop_more, at_drop_all}
-use Rattle.std.proofs.lemmas.Bool.{eq-eqb, ne_eqb}
+use Rattle.std.proofs.Common.{◌≡◌, ℕ, eqb, List, [], ◌∷◌, ◌||◌, refl, ap, ◌∙◌, rules, tests}
+use Rattle.std.specs.List.{list_any}
+use Rattle.std.proofs.lemmas.Iterator.{YieldsList-from_slice}
+use Rattle.std.proofs.lemmas.Iterator.Search.{any_from_yields_List}
 use Rattle.cards.specs.Doubts.{uses}
 use Rattle.book.proofs.uses_leg.Goals as goal
 
-pub returns-then-leg-link : goal.returns-then-leg-link
-returns-then-leg-link c =
-    let legs = c.args.legs.now in
-    sym (c.loop-leg.invariant ∙ at_drop_more (λ xs. uses xs c.args.link) legs c.loop-leg.leg-index 0 (omega arith)
-    ∙ ap (λ b. b || uses (drop (c.loop-leg.leg-index + 1) legs) c.args.link) (eq-eqb _ _ c.if-leg-link.true))
-
-pub loop-leg-preserved : goal.loop-leg-preserved
-loop-leg-preserved c =
-    let legs = c.args.legs.now in
-    c.loop-leg.invariant ∙ at_drop_more (λ xs. uses xs c.args.link) legs c.loop-leg.leg-index 0 (omega arith)
-    ∙ ap (λ b. b || uses (drop (c.loop-leg.leg-index + 1) legs) c.args.link) (ne_eqb _ _ c.if-leg-link.false)
+any_uses : (legs : List ℕ) (link : ℕ) → list_any (λ leg. eqb leg link) legs ≡ uses legs link
+any_uses [] link = refl
+any_uses (leg ∷ legs) link = ap (λ b. eqb leg link || b) (any_uses legs link)
 
 pub returns : goal.returns
-returns c = sym (c.loop-leg.invariant ∙ at_drop_all (λ xs. uses xs c.args.link) c.args.legs.now c.loop-leg.leg-index (omega arith))
+returns c =
+    let legs = c.args.legs.now in
+    any_from_yields_List (λ leg. eqb leg c.args.link) _ _ c.any.result c.any.ensures.ran (YieldsList-from_slice legs cc) (λ x b q k. search (rules, tests)) ∙ any_uses legs c.args.link
