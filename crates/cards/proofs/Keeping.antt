@@ -18,13 +18,12 @@ use Rattle.routing.specs.Searching.{row_of}
 use Rattle.cards.specs.declared.Card.{Card}
 use Rattle.cards.specs.declared.Call.{Call}
 use Rattle.cards.specs.declared.Call.TheVariants.{Offer, Change, Withdraw, Quote, Recheck, Discard, Read}
-use Rattle.cards.specs.declared.Reply.{Reply}
 use Rattle.cards.specs.Books.{Network, Book, with_links, with_cards, with_card, row_at, legs_in, legs_at}
 use Rattle.cards.specs.Doubts.{Rule, next, event_of, is_standing, lapsed, strikes, Doubted, struck_by_offer, struck_by_change, struck_by_withdrawal}
 use Rattle.cards.specs.Calls.{offer_causes, change_causes, withdraw_causes, quote_causes, recheck_causes, discard_causes, standing_card}
 use Rattle.cards.specs.Calls.{Offered, offer_refused, offered, Changed, change_refused, changed, Withdrawn, withdraw_refused, withdrawn}
 use Rattle.cards.specs.Calls.{Quoted, quote_refused, quote_full, quoted, Rechecked, recheck_refused, still_standing, recheck_full, rechecked, Discarded, discard_refused, discarded, Shown, read_refused, shown}
-use Rattle.cards.specs.Runs.{counted, answered, emptied, showing, unless_refused, revalue, relinked, reasked}
+use Rattle.cards.specs.Runs.{Reply, counted, answered, emptied, showing, unless_refused, revalue, relinked, reasked}
 use Rattle.cards.proofs.Clearing.{some_same, none_some, none_of, cleared}
 use Rattle.cards.proofs.Rows.{row_length, row_within, other_rows, own_row}
 use Rattle.cards.proofs.Walking.{sound_set}

@@ -19,13 +19,11 @@ use Rattle.routing.specs.declared.Ask.{Ask}
 use Rattle.routing.specs.declared.Route.{Route}
 use Rattle.cards.specs.declared.Card.{Card}
 use Rattle.cards.specs.declared.Call.{Call}
-use Rattle.cards.specs.declared.Reply.{Reply}
-use Rattle.cards.specs.declared.Reply.TheVariants.{Counted, Held, Refused}
 use Rattle.cards.specs.Books.{Network, Book, opened_network, row_at, leg_count, legs_in, legs_at}
 use Rattle.cards.specs.Calls.{offer_causes, change_causes, withdraw_causes, quote_causes, recheck_causes, discard_causes, legs_of, read_causes}
 use Rattle.cards.specs.Calls.{offer_refused, offered, Changed, change_refused, changed, withdraw_refused, withdrawn}
 use Rattle.cards.specs.Calls.{quote_refused, quote_full, quoted, recheck_refused, still_standing, recheck_full, rechecked, discard_refused, discarded, Shown, read_refused, shown}
-use Rattle.cards.specs.Runs.{Memory, Lent, Outcome, by_offer, by_change, by_withdrawal, by_quote, by_recheck, by_discard, by_reading, counted, showing, Event, event, present, asked, Sought, sought_by, sought, Happened, opened, and_then, Reads, Promised, Continues}
+use Rattle.cards.specs.Runs.{Memory, Lent, Outcome, by_offer, by_change, by_withdrawal, by_quote, by_recheck, by_discard, by_reading, Reply, counted, showing, Event, event, present, asked, Sought, sought_by, sought, Happened, opened, and_then, Reads, Promised, Continues}
 use Rattle.cards.proofs.Clearing.{none_some, Each, cleared, reported}
 use Rattle.cards.proofs.Rows.{pasted}
 use Rattle.cards.proofs.Standing.{Stands, best_of}
@@ -74,24 +72,16 @@ module _ {V L : Type 0} {K : Kind V L} (laws : Laws K) where
 abbrev Plain : List (Bool × Refusal) → Type 0
 Plain = Each (λ c. eqb (number c.1) 16 ≡ false)
 
-abbrev is_refused : {V : Type 0} → Reply V → Bool
-is_refused (Counted count) = false
-is_refused (Held mark answer) = false
-is_refused (Refused why) = true
-
 module _ {V : Type 0} {site : ℕ} where
-  not_refused : (reply : Reply V) → is_refused reply ≡ false → reply ≡ Refused (LabelsFull site) → ⊥
-  not_refused reply calm e = both_ways _ calm (ap is_refused e)
-
-  not_full : (cs : List (Bool × Refusal)) {why : Refusal} → Plain cs → topmost cs ≡ Some why → ◌≡◌ {A = Reply V} (Refused why) (Refused (LabelsFull site)) → ⊥
+  not_full : (cs : List (Bool × Refusal)) {why : Refusal} → Plain cs → topmost cs ≡ Some why → ◌≡◌ {A = Reply V} (Err why) (Err (LabelsFull site)) → ⊥
   not_full cs {why} plain top e =
       let same : why ≡ LabelsFull site = cc in
       both_ways _ (reported (λ r. eqb (number r) 16 ≡ false) cs why plain top) (ap (λ r. eqb (number r) 16) same)
 
 read_plain : {V L : Type 0} {b : Book V L} {card start site : ℕ} {reply reply' : List ℕ} {r : Result (Mark × Option (Route V)) Refusal} →
-    Shown b card start reply r reply' → showing {V = V} r ≡ Refused (LabelsFull site) → ⊥
+    Shown b card start reply r reply' → showing {V = V} r ≡ Err (LabelsFull site) → ⊥
 read_plain {b = b} {card = card} {start = start} {reply = reply} (read_refused why top) e = not_full (read_causes b (length reply) card start) (refl, (refl, (refl, tt))) top e
-read_plain (shown it top here) e = not_refused _ refl e
+read_plain (shown it top here) e = cc
 
 -- what was sought, and that the site has too many walks to hold
 abbrev Over : {V L : Type 0} → Kind V L → List (Option (Link V)) → Option (Sought L) → ℕ → Type 0
@@ -99,37 +89,37 @@ Over {L = L} K links sought site = (goal : Sought L) × (sought ≡ Some goal) �
 
 module _ {V L : Type 0} {K : Kind V L} where
   change_plain : {n : Network V} {b : Book V L} {place : ℕ} {value : V} {r : Result ℕ Refusal} {n' : Network V} {b' : Book V L} {site : ℕ} →
-      Changed K n b place value r n' b' → counted {V = V} r ≡ Refused (LabelsFull site) → ⊥
+      Changed K n b place value r n' b' → counted {V = V} r ≡ Err (LabelsFull site) → ⊥
   change_plain {n} {b = b} {place = place} {value = value} (change_refused why top) e =
       not_full (change_causes K n b place value) (refl, (refl, (refl, (refl, tt)))) top e
-  change_plain (changed old count cards top here d) e = not_refused _ refl e
+  change_plain (changed old count cards top here d) e = cc
 
   full_at : (before : List (Event V L)) {catalogue : List (Option (Link V))} {m m' : Memory V L} {l l' : Lent V} {call : Call V L} {reply : Reply V} (site : ℕ) →
-      Kept K catalogue (λ c. asked c before) m.network m.book → Outcome K m l call reply m' l' → reply ≡ Refused (LabelsFull site) →
+      Kept K catalogue (λ c. asked c before) m.network m.book → Outcome K m l call reply m' l' → reply ≡ Err (LabelsFull site) →
       Over K m.network.links (sought before call) site
   full_at before {m = m} site now (by_offer {place = place} {link = link} (offer_refused why top)) e =
       absurd (not_full (offer_causes K m.network m.book place link) (refl, (refl, (refl, (refl, (refl, (refl, tt)))))) top e)
-  full_at before site now (by_offer (offered count cards top d)) e = absurd (not_refused _ refl e)
+  full_at before site now (by_offer (offered count cards top d)) e = cc
   full_at before site now (by_change o) e = absurd (change_plain o e)
   full_at before {m = m} site now (by_withdrawal {place = place} (withdraw_refused why top)) e =
       absurd (not_full (withdraw_causes m.network m.book place) (refl, (refl, (refl, tt))) top e)
-  full_at before site now (by_withdrawal (withdrawn count cards top d)) e = absurd (not_refused _ refl e)
+  full_at before site now (by_withdrawal (withdrawn count cards top d)) e = cc
   full_at before {m = m} {l = l} site now (by_quote {card = card} {k = k} {ask = ask} (quote_refused why top)) e =
       absurd (not_full (quote_causes K m.network m.book (length l.labels) card ask k) (refl, (refl, (refl, (refl, (refl, (refl, tt)))))) top e)
   full_at before {m = m} site now (by_quote {k = k} {ask = ask} (quote_full there labels' top crowded free)) e =
       let same : there ≡ site = cc in
       (record { ask = ask; k = k }, refl, subst (Crowded K ask.limit (Holds m.network.links) k ask.source) same crowded)
-  full_at before site now (by_quote (quoted answer legs labels' top found free)) e = absurd (not_refused _ refl e)
+  full_at before site now (by_quote (quoted answer legs labels' top found free)) e = cc
   full_at before {m = m} {l = l} site now (by_recheck {card = card} {k = k} (recheck_refused why top)) e =
       absurd (not_full (recheck_causes K m.network m.book (length l.labels) card k) (refl, (refl, (refl, (refl, (refl, (refl, tt)))))) top e)
-  full_at before site now (by_recheck (still_standing it top here stands)) e = absurd (not_refused _ refl e)
+  full_at before site now (by_recheck (still_standing it top here stands)) e = cc
   full_at before {m = m} site now (by_recheck {card = card} {k = k} (recheck_full it there labels' top here doubtful crowded free)) e =
       let same : there ≡ site = cc in
       (record { ask = it.ask; k = k }, ap (sought_by k) (right now card it here).asked, subst (Crowded K it.ask.limit (Holds m.network.links) k it.ask.source) same crowded)
-  full_at before site now (by_recheck (rechecked it answer legs labels' top here doubtful found free)) e = absurd (not_refused _ refl e)
+  full_at before site now (by_recheck (rechecked it answer legs labels' top here doubtful found free)) e = cc
   full_at before {m = m} site now (by_discard {card = card} (discard_refused why top)) e =
       absurd (not_full (discard_causes m.book card) (refl, (refl, tt)) top e)
-  full_at before site now (by_discard (discarded top)) e = absurd (not_refused _ refl e)
+  full_at before site now (by_discard (discarded top)) e = cc
   full_at before site now (by_reading o) e = absurd (read_plain o e)
 
   -- an earlier part of a history happened too
@@ -198,8 +188,8 @@ promise {K = K} laws places history m happened = record {
   route = λ card route legs reads. let s = standing m now card (Some route) legs reads in (s.0, s.1, best_of (present places history) s.0 route legs s.2);
   none = λ card legs reads. let s = standing m now card None legs reads in (s.0, s.1, s.2.beaten);
   full = λ later before call site e.
-      let (after, h) = earlier later (event call (Refused (LabelsFull site)) ∷ before) (subst (λ x. Happened K places x m) e happened) in
-      let (then, l, l', first, outcome) = latest (event call (Refused (LabelsFull site))) before h in
+      let (after, h) = earlier later (event call (Err (LabelsFull site)) ∷ before) (subst (λ x. Happened K places x m) e happened) in
+      let (then, l, l', first, outcome) = latest (event call (Err (LabelsFull site))) before h in
       let past = kept laws first in
       subst (λ links. Over K links (sought before call) site) past.links (full_at before site past outcome refl);
   readable = readable_at m now;

@@ -16,8 +16,8 @@ use Rattle.routing.specs.declared.Ask.{Ask}
 use Rattle.routing.specs.declared.Route.{Route}
 use Rattle.cards.specs.declared.Call.{Call}
 use Rattle.cards.specs.declared.Call.TheVariants.{Offer, Change, Withdraw, Quote, Recheck, Discard, Read}
-use Rattle.cards.specs.declared.Reply.{Reply}
-use Rattle.cards.specs.declared.Reply.TheVariants.{Counted, Held, Refused}
+use Rattle.cards.specs.declared.Answer.{Answer}
+use Rattle.cards.specs.declared.Answer.TheVariants.{Counted, Held}
 use Rattle.cards.specs.Books.{Network, Book, book_size_answer, opened_network, opened_book, leg_count}
 use Rattle.cards.specs.Calls.{Offered, Changed, Withdrawn, Quoted, Rechecked, Discarded, Shown}
 
@@ -30,25 +30,29 @@ pub record Memory (V L : Type 0) : Type 0 where
 abbrev pub memory : {V L : Type 0} → Network V → Book V L → Memory V L
 memory n b = record { network = n; book = b }
 
+-- what a call answers, or why it was turned down
+abbrev pub Reply : Type 0 → Type 0
+Reply V = Result (Answer V) Refusal
+
 -- What each call's own answer is as a reply: an offer, a change and a withdrawal answer their count.
 abbrev pub counted : {V : Type 0} → Result ℕ Refusal → Reply V
-counted (Ok count) = Counted count
-counted (Err why) = Refused why
+counted (Ok count) = Ok (Counted count)
+counted (Err why) = Err why
 
 -- a quote and a recheck that were carried out answer a standing card
 abbrev pub answered : {V : Type 0} → Result (Option (Route V)) Refusal → Reply V
-answered (Ok answer) = Held Standing answer
-answered (Err why) = Refused why
+answered (Ok answer) = Ok (Held Standing answer)
+answered (Err why) = Err why
 
 -- a discard that was carried out answers 0
 abbrev pub emptied : {V : Type 0} → Result (Unit {0}) Refusal → Reply V
-emptied (Ok done) = Counted 0
-emptied (Err why) = Refused why
+emptied (Ok done) = Ok (Counted 0)
+emptied (Err why) = Err why
 
 -- a reading answers mark and answer
 abbrev pub showing : {V : Type 0} → Result (Mark × Option (Route V)) Refusal → Reply V
-showing (Ok held) = Held held.0 held.1
-showing (Err why) = Refused why
+showing (Ok held) = Ok (Held held.0 held.1)
+showing (Err why) = Err why
 
 -- What the caller lends to one call: the labels of a workspace, and the numbers of a reply.
 pub record Lent (V : Type 0) : Type 0 where
@@ -89,9 +93,8 @@ event call reply = record { call = call; reply = reply }
 
 -- one thing where the call was refused, another where it was not
 abbrev pub unless_refused : {V A : Type 0} → Reply V → A → A → A
-unless_refused (Refused why) done stays = stays
-unless_refused (Counted count) done stays = done
-unless_refused (Held mark answer) done stays = done
+unless_refused (Ok answer) done stays = done
+unless_refused (Err why) done stays = stays
 
 -- what stands at a link place once its link was given this value
 abbrev pub revalue : {V : Type 0} → V → Option (Link V) → Option (Link V)
@@ -184,7 +187,7 @@ pub record Promised {V L : Type 0} (K : Kind V L) (places : ℕ) (history : List
       (ask : Ask L) × (asked card history ≡ Some ask) × Outside K ask.limit (Holds (present places history)) ask.source ask.destination
   -- whenever a call answered that the k labels of a site are full, the catalogue as it then was had k + 1 walks from the source to that
   -- site within the limit that was asked for, none dominating another
-  pub full : (later before : List (Event V L)) (call : Call V L) (site : ℕ) → history ≡ later ++ (event call (Refused (LabelsFull site)) ∷ before) →
+  pub full : (later before : List (Event V L)) (call : Call V L) (site : ℕ) → history ≡ later ++ (event call (Err (LabelsFull site)) ∷ before) →
       (goal : Sought L) × (sought before call ≡ Some goal)
       × Crowded K goal.ask.limit (Holds (present places before)) goal.k goal.ask.source site
   -- each filled card can be read, so that the first two say something of it

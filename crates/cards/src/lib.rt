@@ -7,7 +7,7 @@ use report::{Mark, Refusal};
 use routing::{Ask, Route};
 
 // What is kept of a line that was asked about: what was asked, the best route or that there is none, and how far that can be trusted.
-#[derive(Clone, Copy)]
+#[derive(Clone, Copy, PartialEq, Eq, Debug)]
 pub struct Card<M, L> {
     pub ask: Ask<L>,
     pub answer: Option<Route<M>>,
@@ -15,7 +15,7 @@ pub struct Card<M, L> {
 }
 
 // What can happen to a card's mark.
-#[derive(Clone, Copy)]
+#[derive(Clone, Copy, PartialEq, Eq, Debug)]
 pub enum MarkEvent {
     // A link came, went or changed so that a better walk is possible or the route is gone.
     Struck,
@@ -26,7 +26,7 @@ pub enum MarkEvent {
 }
 
 // A call on a catalogue and its quote book. Routing holds k walks a site; a reading copies the legs from a start place on.
-#[derive(Clone, Copy)]
+#[derive(Clone, Copy, PartialEq, Eq, Debug)]
 pub enum Call<M, L> {
     Offer { place: usize, link: Link<M> },
     Change { place: usize, value: M },
@@ -37,13 +37,15 @@ pub enum Call<M, L> {
     Read { card: usize, start: usize },
 }
 
-// What a call answers: how many cards fell into doubt, what a card holds, or why the call was turned down.
-#[derive(Clone, Copy)]
-pub enum Reply<M> {
+// What a call that is carried out answers: how many cards fell into doubt, or what a card holds.
+#[derive(Clone, Copy, PartialEq, Eq, Debug)]
+pub enum Answer<M> {
     Counted(usize),
     Held {
         mark: Mark,
         answer: Option<Route<M>>,
     },
-    Refused(Refusal),
 }
+
+// What a call answers, or why it was turned down.
+pub type Reply<M> = Result<Answer<M>, Refusal>;

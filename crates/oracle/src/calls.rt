@@ -45,15 +45,9 @@ fn route_of<M: Kind>(route: Route<M>) -> PlainRoute {
 
 fn held<M: Kind>(mark: Mark, answer: Option<Route<M>>) -> PlainReply {
     let is_standing = mark == Mark::Standing;
-    match answer {
-        Some(route) => PlainReply::Held {
-            is_standing,
-            answer: Some(route_of(route)),
-        },
-        None => PlainReply::Held {
-            is_standing,
-            answer: None,
-        },
+    PlainReply::Held {
+        is_standing,
+        answer: answer.map(route_of),
     }
 }
 
@@ -64,40 +58,23 @@ fn refused(why: Refusal) -> PlainReply {
     }
 }
 
-fn counted(outcome: Result<usize, Refusal>) -> PlainReply {
-    match outcome {
-        Ok(count) => PlainReply::Counted(count),
-        Err(why) => refused(why),
-    }
-}
-
-fn emptied(outcome: Result<(), Refusal>) -> PlainReply {
-    match outcome {
-        Ok(()) => PlainReply::Counted(0),
-        Err(why) => refused(why),
-    }
-}
-
-fn answered<M: Kind>(outcome: Result<Option<Route<M>>, Refusal>) -> PlainReply {
-    match outcome {
-        Ok(answer) => held(Mark::Standing, answer),
-        Err(why) => refused(why),
-    }
-}
-
-fn shown<M: Kind>(outcome: Result<(Mark, Option<Route<M>>), Refusal>) -> PlainReply {
-    match outcome {
-        Ok((mark, answer)) => held(mark, answer),
-        Err(why) => refused(why),
-    }
-}
-
-fn reply_of<M: Kind>(reply: Reply<M>) -> PlainReply {
+fn plain<M: Kind>(reply: Reply<M>) -> PlainReply {
     match reply {
-        Reply::Counted(count) => PlainReply::Counted(count),
-        Reply::Held { mark, answer } => held(mark, answer),
-        Reply::Refused(why) => refused(why),
+        Ok(Answer::Counted(count)) => PlainReply::Counted(count),
+        Ok(Answer::Held { mark, answer }) => held(mark, answer),
+        Err(why) => refused(why),
     }
+}
+
+fn standing<M: Kind>(answer: Option<Route<M>>) -> Answer<M> {
+    Answer::Held {
+        mark: Mark::Standing,
+        answer,
+    }
+}
+
+fn shown<M: Kind>(outcome: Result<(Mark, Option<Route<M>>), Refusal>) -> Reply<M> {
+    outcome.map(|(mark, answer)| Answer::Held { mark, answer })
 }
 
 fn link_of<M: Kind>(link: PlainLink) -> Link<M> {
@@ -154,23 +131,28 @@ fn call_itself<M: Kind>(
     workspace: &mut [Label<M>],
     reply: &mut [u16],
     request: Request,
-) -> PlainReply {
+) -> Reply<M> {
     match request {
-        Request::Offer { place, link } => counted(offer(catalogue, book, place, link_of(link))),
-        Request::Change { place, value } => {
-            counted(change(catalogue, book, place, M::value_of(value)))
+        Request::Offer { place, link } => {
+            Ok(Answer::Counted(offer(catalogue, book, place, link_of(link))?))
         }
-        Request::Withdraw { place } => counted(withdraw(catalogue, book, place)),
+        Request::Change { place, value } => {
+            Ok(Answer::Counted(change(catalogue, book, place, M::value_of(value))?))
+        }
+        Request::Withdraw { place } => Ok(Answer::Counted(withdraw(catalogue, book, place)?)),
         Request::Quote {
             card,
             ask,
             k,
             room: _,
-        } => answered(quote(&*catalogue, book, workspace, card, ask_of::<M>(ask), k)),
+        } => quote(&*catalogue, book, workspace, card, ask_of::<M>(ask), k).map(standing),
         Request::Recheck { card, k, room: _ } => {
-            answered(recheck(&*catalogue, book, workspace, card, k))
+            recheck(&*catalogue, book, workspace, card, k).map(standing)
         }
-        Request::Discard { card } => emptied(discard(book, card)),
+        Request::Discard { card } => {
+            discard(book, card)?;
+            Ok(Answer::Counted(0))
+        }
         Request::Read {
             card,
             start,
@@ -188,10 +170,11 @@ pub(crate) fn carry_out<M: Kind>(
     request: Request,
     by_its_own: bool,
 ) -> PlainReply {
-    if by_its_own {
-        return call_itself(catalogue, book, workspace, reply, request);
-    }
-    reply_of(perform(catalogue, book, workspace, reply, call_of(request)))
+    plain(if by_its_own {
+        call_itself(catalogue, book, workspace, reply, request)
+    } else {
+        perform(catalogue, book, workspace, reply, call_of(request))
+    })
 }
 
 // What a reading of the card answers.
@@ -201,5 +184,5 @@ pub(crate) fn read_card<M: Kind>(
     reply: &mut [u16],
     start: usize,
 ) -> PlainReply {
-    shown(read(book, card, reply, start))
+    plain(shown(read(book, card, reply, start)))
 }

@@ -1,56 +1,28 @@
 //! One call after the other: whatever the calls were, what a standing card says is so.
 ghost use Rattle.std.specs.Prelude.{◌≡◌};
-ghost use Rattle.cards.specs.Runs.{lent, counted as counted_reply, answered as answered_reply, emptied as emptied_reply, showing as showing_reply, Outcome, Continues};
+ghost use Rattle.cards.specs.Runs.{lent, Outcome, Continues};
 ghost use Rattle.book.specs.Stores.{memory_of, SameLinks, SamePlaces};
 
 use crate::changes::{change, offer, withdraw};
 use book::{QuoteBook, discard, quote, read, recheck};
-use cards::{Call, Reply};
+use cards::{Answer, Call, Reply};
 use catalogue::Catalogue;
 use labels::Label;
 use measure::Measure;
-use report::{Mark, Refusal};
+use report::Mark;
 use routing::Route;
 
-fn counted<M: Copy>(res: Result<usize, Refusal>) -> Reply<M>
-    ensures { result ≡ counted_reply res }
+// What a quote or a recheck that was carried out answers: the card stands.
+fn standing<M: Copy>(answer: Option<Route<M>>) -> Answer<M>
+    ensures { result ≡ Answer.Held Mark.Standing answer }
 {
-    match res {
-        Ok(count) => Reply::Counted(count),
-        Err(why) => Reply::Refused(why),
+    Answer::Held {
+        mark: Mark::Standing,
+        answer,
     }
 }
 
-fn answered<M: Copy>(res: Result<Option<Route<M>>, Refusal>) -> Reply<M>
-    ensures { result ≡ answered_reply res }
-{
-    match res {
-        Ok(answer) => Reply::Held {
-            mark: Mark::Standing,
-            answer,
-        },
-        Err(why) => Reply::Refused(why),
-    }
-}
-
-fn emptied<M: Copy>(res: Result<(), Refusal>) -> Reply<M>
-    ensures { result ≡ emptied_reply res }
-{
-    match res {
-        Ok(()) => Reply::Counted(0),
-        Err(why) => Reply::Refused(why),
-    }
-}
-
-fn showing<M: Copy>(res: Result<(Mark, Option<Route<M>>), Refusal>) -> Reply<M>
-    ensures { result ≡ showing_reply res }
-{
-    match res {
-        Ok((mark, answer)) => Reply::Held { mark, answer },
-        Err(why) => Reply::Refused(why),
-    }
-}
-
+#[tactic(auto, using(crate::proofs::Running::steps))]
 fn carry_out<M: Measure>(
     catalogue: &mut Catalogue<'_, M>,
     book: &mut QuoteBook<'_, M, M::Limit>,
@@ -59,18 +31,32 @@ fn carry_out<M: Measure>(
     call: Call<M, M::Limit>,
 ) -> Reply<M>
     ensures outcome { Outcome M.Measure.kind (memory_of catalogue.old book.old) (lent labels.old reply.old) call result (memory_of catalogue.new book.new) (lent labels.new reply.new) }
-    ensures no_better_route { Continues M.Measure.kind (memory_of catalogue.old book.old) call result (memory_of catalogue.new book.new) }
     ensures links { SameLinks catalogue.old catalogue.new }
     ensures places { SamePlaces book.old book.new }
 {
     match call {
-        Call::Offer { place, link } => counted(offer(catalogue, book, place, link)),
-        Call::Change { place, value } => counted(change(catalogue, book, place, value)),
-        Call::Withdraw { place } => counted(withdraw(catalogue, book, place)),
-        Call::Quote { card, ask, k } => { answered(quote(&*catalogue, book, labels, card, ask, k)) }
-        Call::Recheck { card, k } => answered(recheck(&*catalogue, book, labels, card, k)),
-        Call::Discard { card } => emptied(discard(book, card)),
-        Call::Read { card, start } => showing(read(&*book, card, reply, start)),
+        Call::Offer { place, link } => Ok(Answer::Counted(offer(catalogue, book, place, link)?)),
+        Call::Change { place, value } => Ok(Answer::Counted(change(
+            catalogue, book, place, value,
+        )?)),
+        Call::Withdraw { place } => Ok(Answer::Counted(withdraw(catalogue, book, place)?)),
+        Call::Quote { card, ask, k } => Ok(standing(quote(
+            &*catalogue,
+            book,
+            labels,
+            card,
+            ask,
+            k,
+        )?)),
+        Call::Recheck { card, k } => Ok(standing(recheck(&*catalogue, book, labels, card, k)?)),
+        Call::Discard { card } => {
+            discard(book, card)?;
+            Ok(Answer::Counted(0))
+        }
+        Call::Read { card, start } => {
+            let (mark, answer) = read(&*book, card, reply, start)?;
+            Ok(Answer::Held { mark, answer })
+        }
     }
 }
 

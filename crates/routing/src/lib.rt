@@ -21,7 +21,7 @@ mod scan;
 mod step;
 
 // What is asked for: the first walk in rank from the source to the destination within the limit.
-#[derive(Clone, Copy)]
+#[derive(Clone, Copy, PartialEq, Eq, Debug)]
 pub struct Ask<L> {
     pub source: u16,
     pub destination: u16,
@@ -29,7 +29,7 @@ pub struct Ask<L> {
 }
 
 // A route: how many legs it has, its value, and the share of the limit that it uses up.
-#[derive(Clone, Copy)]
+#[derive(Clone, Copy, PartialEq, Eq, Debug)]
 pub struct Route<M> {
     pub legs: usize,
     pub value: M,

@@ -5,8 +5,7 @@ use Rattle.std.specs.Io.KnownBytes.{Appends}
 use Rattle.records.specs.declared.Record.{Record as Rec}
 use Rattle.records.specs.declared.Reading.TheVariants.{Record}
 use Rattle.records.specs.Feed.{reading_of, unread_of}
-use Rattle.cards.specs.declared.Reply.{Reply}
-use Rattle.cards.specs.Runs.{Memory, Lent}
+use Rattle.cards.specs.Runs.{Reply, Memory, Lent}
 use Rattle.book.proofs.Fronts.{take_min}
 use Rattle.line.specs.declared.Reply.{Reply as Printed}
 use Rattle.line.specs.Lines.{line_of}

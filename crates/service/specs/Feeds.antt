@@ -9,8 +9,7 @@ use Rattle.report.specs.declared.Refusal.TheVariants.{BufferTooShort}
 use Rattle.service.specs.declared.ServiceError.{ServiceError}
 use Rattle.service.specs.declared.ServiceError.TheVariants as ServiceErrors
 use Rattle.labels.specs.declared.Label.{Label}
-use Rattle.cards.specs.declared.Reply.{Reply}
-use Rattle.cards.specs.Runs.{Memory, Lent}
+use Rattle.cards.specs.Runs.{Reply, Memory, Lent}
 use Rattle.line.specs.declared.Reply.TheVariants as LineVariants
 use Rattle.line.specs.Lines.{line_of}
 use Rattle.service.specs.Serving.{TrunkValue, TrunkLimits, Served, printed}

@@ -1,5 +1,5 @@
 -- What becomes of a record.
-use Rattle.std.specs.Prelude.{◌≡◌, ℕ, Some, None, Option}
+use Rattle.std.specs.Prelude.{◌≡◌, ℕ, Some, None, Ok, Err, Option}
 use Rattle.measure.specs.declared.pair.Pair.{Pair}
 use Rattle.measure.specs.declared.scalar.Sum.{Sum}
 use Rattle.measure.specs.declared.scalar.Worst.{Worst}
@@ -11,9 +11,8 @@ use Rattle.records.specs.declared.Record.TheVariants as RecordVariants
 use Rattle.routing.specs.declared.Ask.{Ask}
 use Rattle.cards.specs.declared.Call.{Call}
 use Rattle.cards.specs.declared.Call.TheVariants.{Offer, Change, Withdraw, Quote, Recheck, Discard, Read}
-use Rattle.cards.specs.declared.Reply.{Reply}
-use Rattle.cards.specs.declared.Reply.TheVariants.{Counted, Held, Refused}
-use Rattle.cards.specs.Runs.{Memory, Lent, Outcome}
+use Rattle.cards.specs.declared.Answer.TheVariants.{Counted, Held}
+use Rattle.cards.specs.Runs.{Reply, Memory, Lent, Outcome}
 use Rattle.line.specs.declared.Reply.{Reply as Printed}
 use Rattle.line.specs.declared.Reply.TheVariants as LineVariants
 
@@ -53,9 +52,9 @@ call_of (RecordVariants.Read card) k = Read card 0
 
 -- the card that is read once a quote or a recheck was carried out
 abbrev pub held_card : Reply TrunkValue → ℕ → Option ℕ
-held_card (Counted count) card = None
-held_card (Held mark answer) card = Some card
-held_card (Refused why) card = None
+held_card (Ok (Counted count)) card = None
+held_card (Ok (Held mark answer)) card = Some card
+held_card (Err why) card = None
 
 -- the card that is read after the call of a record, if one is
 abbrev pub card_read : Record → Reply TrunkValue → Option ℕ
@@ -82,7 +81,7 @@ pub record Served (m : Memory TrunkValue TrunkLimits) (l : Lent TrunkValue) (r :
 
 -- what is printed of a reply, and how many legs its route has
 abbrev pub printed : Reply TrunkValue → Printed × ℕ
-printed (Counted count) = (LineVariants.Counted count, 0)
-printed (Held mark None) = (LineVariants.NoRoute mark, 0)
-printed (Held mark (Some route)) = (LineVariants.Route mark route.ratio route.value, route.legs)
-printed (Refused why) = (LineVariants.Refused why, 0)
+printed (Ok (Counted count)) = (LineVariants.Counted count, 0)
+printed (Ok (Held mark None)) = (LineVariants.NoRoute mark, 0)
+printed (Ok (Held mark (Some route))) = (LineVariants.Route mark route.ratio route.value, route.legs)
+printed (Err why) = (LineVariants.Refused why, 0)

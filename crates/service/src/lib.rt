@@ -7,7 +7,7 @@ ghost use Rattle.book.specs.Stores.{memory_of, SameLinks, SamePlaces};
 ghost use Rattle.service.specs.declared.ServiceError.TheVariants as ServiceErrors;
 ghost use Rattle.service.specs.Serving.{value_of, limit_of, call_of, card_read, printed, Served};
 
-use cards::{Call, Reply};
+use cards::{Answer, Call, Reply};
 use catalogue::{Catalogue, Link};
 use labels::Label;
 use line::Reply as Printed;
@@ -119,7 +119,7 @@ pub fn call_of(record: Record, k: usize) -> Call<Trunk, TrunkLimit>
 fn card_read(record: Record, reply: Reply<Trunk>) -> Option<usize>
     ensures { result ≡ card_read «record» reply }
 {
-    let Reply::Held { mark: _, answer: _ } = reply else {
+    let Ok(Answer::Held { mark: _, answer: _ }) = reply else {
         return None;
     };
     match record {
@@ -165,15 +165,15 @@ pub fn print(reply: Reply<Trunk>) -> (Printed, usize)
     ensures { (result.0 ≡ (printed reply).0) × (result.1 ≡ (printed reply).1) }
 {
     match reply {
-        Reply::Counted(count) => (Printed::Counted(count), 0),
-        Reply::Held {
+        Ok(Answer::Counted(count)) => (Printed::Counted(count), 0),
+        Ok(Answer::Held {
             mark,
             answer: Some(route),
-        } => {
+        }) => {
             let Route { legs, value, ratio } = route;
             (Printed::Route { mark, ratio, value }, legs)
         }
-        Reply::Held { mark, answer: None } => (Printed::NoRoute { mark }, 0),
-        Reply::Refused(why) => (Printed::Refused(why), 0),
+        Ok(Answer::Held { mark, answer: None }) => (Printed::NoRoute { mark }, 0),
+        Err(why) => (Printed::Refused(why), 0),
     }
 }
