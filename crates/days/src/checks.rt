@@ -1,82 +1,116 @@
-//! What the tests share: a day's memory, its calls, and what is told by them.
-use cards::{Call, Reply};
+//! What the tests share: a day's memory, its calls, and what they answer.
+use cards::{Answer, Call, Card, Reply};
 use catalogue::{Catalogue, Link};
 use labels::Label;
 use measure::pair::{Trunk, TrunkLimit};
 use measure::{Measure, Ratio};
 use quotes::{QuoteBook, perform};
-use report::{Mark, Refusal};
-use routing::{Ask, Route};
+use report::Mark;
+use routing::{Ask, Route, free_label};
+use std::alloc::{AllocError, Allocator};
 use std::fmt::Debug;
 use std::process::Abort;
 
+// A call, and what it answers.
+pub(crate) type Turn<M, L> = (Call<M, L>, Reply<M>);
+
 pub(crate) type TrunkCall = Call<Trunk, TrunkLimit>;
+
+pub(crate) type TrunkTurn = Turn<Trunk, TrunkLimit>;
 
 pub(crate) type TrunkDay<'a> = Day<'a, Trunk, TrunkLimit>;
 
-// What a call answers, in a form that can be compared.
-#[derive(Clone, Copy, PartialEq, Debug)]
-pub(crate) enum Told<M> {
-    Count(usize),
-    Best {
-        mark: Mark,
-        legs: usize,
-        value: M,
-        ratio: Ratio,
-    },
-    NoWay(Mark),
-    Refused(Refusal),
+// How many sites a day has, how many places for links and cards, and how much is lent to its calls.
+#[derive(Clone, Copy)]
+pub(crate) struct Sizes {
+    pub sites: usize,
+    pub places: usize,
+    pub cards: usize,
+    pub labels: usize,
+    pub reply: usize,
+}
+
+// The memory that a day lends: its rows have a number for each card and site.
+#[derive(Drop)]
+pub(crate) struct Memory<M, L, A: Allocator> {
+    pub sites: usize,
+    pub places: Vec<Option<Link<M>>, A>,
+    pub cards: Vec<Option<Card<M, L>>, A>,
+    pub rows: Vec<u16, A>,
+    pub labels: Vec<Label<M>, A>,
+    pub reply: Vec<u16, A>,
 }
 
 // A catalogue and its quote book, and what is lent to their calls.
 #[derive(Drop)]
 pub(crate) struct Day<'a, M, L> {
-    pub(crate) catalogue: Catalogue<'a, M>,
-    pub(crate) book: QuoteBook<'a, M, L>,
-    pub(crate) labels: &'a mut [Label<M>],
-    pub(crate) reply: &'a mut [u16],
+    pub catalogue: Catalogue<'a, M>,
+    pub book: QuoteBook<'a, M, L>,
+    pub labels: &'a mut [Label<M>],
+    pub reply: &'a mut [u16],
 }
 
-pub(crate) fn shown<M: Measure>(mark: Mark, answer: Option<Route<M>>) -> Told<M> {
-    match answer {
-        Some(Route { legs, value, ratio }) => Told::Best {
-            mark,
-            legs,
-            value,
-            ratio,
-        },
-        None => Told::NoWay(mark),
+// Memory of these sizes: each row number is 7, each of the reply 9, and each label free.
+pub(crate) fn lend<M: Measure, R: Alloc>(
+    rt: &R,
+    sizes: Sizes,
+) -> Result<Memory<M, M::Limit, R::A>, AllocError> {
+    Ok(Memory {
+        sites: sizes.sites,
+        places: vec![in rt.alloc(); None; sizes.places]?,
+        cards: vec![in rt.alloc(); None; sizes.cards]?,
+        rows: vec![in rt.alloc(); 7; sizes.cards.saturating_mul(sizes.sites)]?,
+        labels: vec![in rt.alloc(); free_label::<M>(); sizes.labels]?,
+        reply: vec![in rt.alloc(); 9; sizes.reply]?,
+    })
+}
+
+impl<M: Measure, A: Allocator> Memory<M, M::Limit, A> {
+    // A day whose quote book is made for so many sites, with the first of the row numbers.
+    pub(crate) fn open_for(&mut self, sites: usize, numbers: usize) -> Day<'_, M, M::Limit> {
+        let own_sites = self.sites;
+        let numbers = numbers.min(self.rows.len());
+        Day {
+            catalogue: Catalogue::open(&mut self.places, own_sites),
+            book: QuoteBook::open(&mut self.cards, &mut self.rows[0..numbers], sites),
+            labels: &mut self.labels,
+            reply: &mut self.reply,
+        }
+    }
+
+    // A day whose quote book is made for the catalogue.
+    pub(crate) fn open(&mut self) -> Day<'_, M, M::Limit> {
+        let (sites, numbers) = (self.sites, self.rows.len());
+        self.open_for(sites, numbers)
     }
 }
 
-pub(crate) fn told_by<M: Measure>(reply: Reply<M>) -> Told<M> {
-    match reply {
-        Reply::Counted(count) => Told::Count(count),
-        Reply::Held { mark, answer } => shown(mark, answer),
-        Reply::Refused(why) => Told::Refused(why),
-    }
-}
-
-// The calls, one after the other, tell what stands beside them.
-pub(crate) fn check_calls<M: Measure + PartialEq + Debug>(
-    rt: &impl Abort,
-    day: &mut Day<'_, M, M::Limit>,
-    calls: &[(Call<M, M::Limit>, Told<M>)],
-) {
-    for (turn, (call, want)) in calls.iter().copied().enumerate() {
-        let reply = perform(
-            &mut day.catalogue,
-            &mut day.book,
-            day.labels,
-            day.reply,
-            call,
-        );
-        assert_eq!(rt; told_by(reply), want, "at {turn}");
+impl<M: Measure + PartialEq + Debug> Day<'_, M, M::Limit> {
+    // The calls, one after the other, answer what stands beside them.
+    pub(crate) fn check(&mut self, rt: &impl Abort, turns: &[Turn<M, M::Limit>]) {
+        for (turn, (call, want)) in turns.iter().copied().enumerate() {
+            let reply = perform(
+                &mut self.catalogue,
+                &mut self.book,
+                self.labels,
+                self.reply,
+                call,
+            );
+            assert_eq!(rt; reply, want, "at {turn}");
+        }
     }
 }
 
 pub(crate) fn link<M: Measure>(start: u16, end: u16, value: M) -> Link<M> {
     Link { start, end, value }
+}
+
+pub(crate) fn ask<L>(source: u16, destination: u16, limit: L) -> Ask<L> {
+    Ask {
+        source,
+        destination,
+        limit,
+    }
 }
 
 pub(crate) fn offer<M: Measure, L: Copy>(
@@ -104,11 +138,7 @@ pub(crate) fn quote<M: Measure, L: Copy>(
 ) -> Call<M, L> {
     Call::Quote {
         card,
-        ask: Ask {
-            source,
-            destination,
-            limit,
-        },
+        ask: ask(source, destination, limit),
         k,
     }
 }
@@ -122,18 +152,24 @@ pub(crate) fn read<M: Measure, L: Copy>(card: usize) -> Call<M, L> {
     Call::Read { card, start: 0 }
 }
 
-// A route of so many legs.
+// So many cards fall into doubt.
+pub(crate) fn counted<M: Measure>(cards: usize) -> Reply<M> {
+    Ok(Answer::Counted(cards))
+}
+
+// The card of this mark has this answer.
+pub(crate) fn held<M: Measure>(mark: Mark, answer: Option<Route<M>>) -> Reply<M> {
+    Ok(Answer::Held { mark, answer })
+}
+
+// The card of this mark has a route of so many legs, of the ratio `top / bottom`.
 pub(crate) fn best<M: Measure>(
     mark: Mark,
     legs: usize,
     value: M,
     top: u32,
     bottom: u32,
-) -> Told<M> {
-    Told::Best {
-        mark,
-        legs,
-        value,
-        ratio: Ratio { top, bottom },
-    }
+) -> Reply<M> {
+    let ratio = Ratio { top, bottom };
+    held(mark, Some(Route { legs, value, ratio }))
 }

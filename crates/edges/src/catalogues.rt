@@ -15,18 +15,19 @@ fn link(start: u16, end: u16, value: u32) -> Link<Sum> {
 
 #[test]
 fn sizes_at_their_ends(rt: HostRuntime) {
-    for (sites, places) in [(1, 1), (256, 4096), (1, 4096), (256, 1)] {
-        assert_eq!(rt; check_size(sites, places), Ok(()));
-    }
-    for (sites, places) in [
-        (0, 1),
-        (257, 1),
-        (1, 0),
-        (1, 4097),
-        (0, 0),
-        (usize::MAX, usize::MAX),
+    for (sites, places, want) in [
+        (1, 1, Ok(())),
+        (256, 4096, Ok(())),
+        (1, 4096, Ok(())),
+        (256, 1, Ok(())),
+        (0, 1, Err(Refusal::CatalogueSize)),
+        (257, 1, Err(Refusal::CatalogueSize)),
+        (1, 0, Err(Refusal::CatalogueSize)),
+        (1, 4097, Err(Refusal::CatalogueSize)),
+        (0, 0, Err(Refusal::CatalogueSize)),
+        (usize::MAX, usize::MAX, Err(Refusal::CatalogueSize)),
     ] {
-        assert_eq!(rt; check_size(sites, places), Err(Refusal::CatalogueSize));
+        assert_eq!(rt; check_size(sites, places), want, "of {sites} and {places}");
     }
 }
 
@@ -34,55 +35,55 @@ fn sizes_at_their_ends(rt: HostRuntime) {
 fn places_and_sites_at_their_last(rt: HostRuntime) {
     let mut places = [None; 32];
     let mut catalogue = Catalogue::open(&mut places, 16);
-    assert_eq!(rt; catalogue.store(31, link(15, 0, 1)), Ok(()));
-    assert_eq!(rt;
-        catalogue.store(32, link(15, 0, 1)),
-        Err(Refusal::NoSuchLink)
-    );
-    assert_eq!(rt;
-        catalogue.store(usize::MAX, link(15, 0, 1)),
-        Err(Refusal::NoSuchLink)
-    );
-    assert_eq!(rt;
-        catalogue.store(0, link(16, 0, 1)),
-        Err(Refusal::NoSuchSite)
-    );
-    assert_eq!(rt;
-        catalogue.store(0, link(0, 65535, 1)),
-        Err(Refusal::NoSuchSite)
-    );
-    assert_eq!(rt; catalogue.store(0, link(15, 15, 1)), Err(Refusal::EndsMeet));
-    assert_eq!(rt; catalogue.store(31, link(0, 1, 1)), Err(Refusal::LinkTaken));
-    assert_eq!(rt; catalogue.replace(31, Sum::new(2)), Ok(link(15, 0, 1)));
-    assert_eq!(rt;
-        catalogue.replace(32, Sum::new(2)),
-        Err(Refusal::NoSuchLink)
-    );
-    assert_eq!(rt; catalogue.remove(31), Ok(link(15, 0, 2)));
-    assert_eq!(rt; catalogue.remove(31), Err(Refusal::LinkEmpty));
-    assert_eq!(rt; catalogue.remove(32), Err(Refusal::NoSuchLink));
+    for (place, link, want) in [
+        (31, link(15, 0, 1), Ok(())),
+        (32, link(15, 0, 1), Err(Refusal::NoSuchLink)),
+        (usize::MAX, link(15, 0, 1), Err(Refusal::NoSuchLink)),
+        (0, link(16, 0, 1), Err(Refusal::NoSuchSite)),
+        (0, link(0, 65535, 1), Err(Refusal::NoSuchSite)),
+        (0, link(15, 15, 1), Err(Refusal::EndsMeet)),
+        (31, link(0, 1, 1), Err(Refusal::LinkTaken)),
+    ] {
+        assert_eq!(rt; catalogue.store(place, link), want, "at {place}");
+    }
+    for (place, want) in [(31, Ok(link(15, 0, 1))), (32, Err(Refusal::NoSuchLink))] {
+        assert_eq!(rt; catalogue.replace(place, Sum::new(2)), want, "at {place}");
+    }
+    for (place, want) in [
+        (31, Ok(link(15, 0, 2))),
+        (31, Err(Refusal::LinkEmpty)),
+        (32, Err(Refusal::NoSuchLink)),
+    ] {
+        assert_eq!(rt; catalogue.remove(place), want, "at {place}");
+    }
 }
 
 #[test]
 fn values_at_their_last(rt: HostRuntime) {
     let mut places = [None; 2];
     let mut catalogue = Catalogue::open(&mut places, 2);
-    assert_eq!(rt; catalogue.store(0, link(0, 1, 2147483647)), Ok(()));
-    assert_eq!(rt;
-        catalogue.store(0, link(1, 0, 2147483648)),
-        Err(Refusal::ValueNotAdmitted)
-    );
-    assert_eq!(rt;
-        catalogue.replace(1, Sum::new(2147483648)),
-        Err(Refusal::ValueNotAdmitted)
-    );
-    assert_eq!(rt;
-        catalogue.replace(1, Sum::new(2147483647)),
-        Err(Refusal::LinkEmpty)
-    );
-    assert_eq!(rt; catalogue.link(0), Some(link(0, 1, 2147483647)));
-    assert_eq!(rt; catalogue.link(1), None);
-    assert_eq!(rt; catalogue.link(2), None);
+    for (link, want) in [
+        (link(0, 1, 2147483647), Ok(())),
+        (link(1, 0, 2147483648), Err(Refusal::ValueNotAdmitted)),
+    ] {
+        assert_eq!(rt; catalogue.store(0, link), want);
+    }
+    for (number, want) in [
+        (2147483648, Refusal::ValueNotAdmitted),
+        (2147483647, Refusal::LinkEmpty),
+    ] {
+        assert_eq!(rt; catalogue.replace(1, Sum::new(number)), Err(want));
+    }
+    for (place, want) in [(0, Some(link(0, 1, 2147483647))), (1, None), (2, None)] {
+        assert_eq!(rt; catalogue.link(place), want, "at {place}");
+    }
+}
+
+fn at(site: u16, number: u32) -> Option<Reached<Sum>> {
+    Some(Reached {
+        site,
+        value: Sum::new(number),
+    })
 }
 
 #[test]
@@ -91,27 +92,16 @@ fn legs_are_followed(rt: HostRuntime) -> Result<(), Fail> {
     let mut catalogue = Catalogue::open(&mut places, 3);
     catalogue.store(0, link(0, 1, 2147483646))?;
     catalogue.store(1, link(1, 0, 1))?;
-    let start = Some(Reached {
-        site: 2,
-        value: Sum::new(0),
-    });
-    assert_eq!(rt; follow(&catalogue, 2, &[]), start);
-    assert_eq!(rt;
-        follow(&catalogue, 0, &[0, 1]),
-        Some(Reached {
-            site: 0,
-            value: Sum::new(2147483647),
-        })
-    );
-    assert_eq!(rt;
-        follow(&catalogue, 0, &[0, 1, 0]),
-        Some(Reached {
-            site: 1,
-            value: Sum::new(2147483648),
-        })
-    );
-    assert_eq!(rt; follow(&catalogue, 0, &[0, 0]), None);
-    assert_eq!(rt; follow(&catalogue, 0, &[2]), None);
-    assert_eq!(rt; follow(&catalogue, 0, &[4]), None);
+    let cases: [(u16, &[u16], Option<Reached<Sum>>); 6] = [
+        (2, &[], at(2, 0)),
+        (0, &[0, 1], at(0, 2147483647)),
+        (0, &[0, 1, 0], at(1, 2147483648)),
+        (0, &[0, 0], None),
+        (0, &[2], None),
+        (0, &[4], None),
+    ];
+    for (source, legs, want) in cases {
+        assert_eq!(rt; follow(&catalogue, source, legs), want, "along {legs:?}");
+    }
     Ok(())
 }

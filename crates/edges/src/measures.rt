@@ -2,8 +2,16 @@
 use measure::pair::{Pair, Trunk, trunk_limits, trunk_value};
 use measure::scalar::{Sum, Worst};
 use measure::{Measure, ranks_before};
+use std::process::Abort;
 
 const LAST: u32 = 2147483647;
+
+// Whether each of the limits is admitted.
+fn check_limits<M: Measure>(rt: &impl Abort, limits: &[M::Limit], admitted: bool) {
+    for limit in limits.iter().copied() {
+        assert_eq!(rt; M::limit_admitted(limit), admitted);
+    }
+}
 
 #[test]
 fn limits_from_1_to_the_last_are_admitted(rt: HostRuntime) {
@@ -14,20 +22,14 @@ fn limits_from_1_to_the_last_are_admitted(rt: HostRuntime) {
         (LAST + 1, false),
         (u32::MAX, false),
     ] {
-        assert_eq!(rt; Sum::limit_admitted(limit), admitted);
-        assert_eq!(rt; Worst::limit_admitted(limit), admitted);
-        assert_eq!(rt;
-            Trunk::limit_admitted(trunk_limits(limit, 1, LAST)),
-            admitted
-        );
-        assert_eq!(rt;
-            Trunk::limit_admitted(trunk_limits(1, limit, LAST)),
-            admitted
-        );
-        assert_eq!(rt;
-            Trunk::limit_admitted(trunk_limits(1, LAST, limit)),
-            admitted
-        );
+        check_limits::<Sum>(&rt, &[limit], admitted);
+        check_limits::<Worst>(&rt, &[limit], admitted);
+        let limits = [
+            trunk_limits(limit, 1, LAST),
+            trunk_limits(1, limit, LAST),
+            trunk_limits(1, LAST, limit),
+        ];
+        check_limits::<Trunk>(&rt, &limits, admitted);
     }
 }
 
@@ -39,12 +41,17 @@ fn measures_past_the_last_are_over(rt: HostRuntime) {
         (LAST + 1, false),
         (u32::MAX, false),
     ] {
-        assert_eq!(rt; trunk_value(number, 0, 0).admitted(), admitted);
-        assert_eq!(rt; trunk_value(0, number, 0).admitted(), admitted);
-        assert_eq!(rt; trunk_value(0, 0, number).admitted(), admitted);
+        for value in [
+            trunk_value(number, 0, 0),
+            trunk_value(0, number, 0),
+            trunk_value(0, 0, number),
+        ] {
+            assert_eq!(rt; value.admitted(), admitted, "at {number}");
+        }
     }
-    assert!(rt;
-        trunk_value(u32::MAX, LAST + 1, u32::MAX) == trunk_value(LAST + 1, u32::MAX, LAST + 1)
+    assert_eq!(rt;
+        trunk_value(u32::MAX, LAST + 1, u32::MAX),
+        trunk_value(LAST + 1, u32::MAX, LAST + 1)
     );
     assert!(rt; Sum::new(LAST).within(LAST));
     assert!(rt; !Sum::new(LAST + 1).within(LAST));
@@ -53,12 +60,26 @@ fn measures_past_the_last_are_over(rt: HostRuntime) {
 #[test]
 fn over_stays_over(rt: HostRuntime) {
     let over = Sum::new(LAST + 1);
-    assert!(rt; over.join(Sum::new(0)) == over);
-    assert!(rt; over.join(over) == over);
-    assert!(rt; Sum::new(LAST).join(Sum::new(LAST)) == over);
+    for (value, next) in [
+        (over, Sum::new(0)),
+        (over, over),
+        (Sum::new(LAST), Sum::new(LAST)),
+    ] {
+        assert_eq!(rt; value.join(next), over);
+    }
     assert!(rt; Sum::new(LAST).before(over));
     assert!(rt; !over.before(over));
-    assert!(rt; Worst::new(3).join(Worst::new(LAST + 1)) == Worst::new(u32::MAX));
+    assert_eq!(rt;
+        Worst::new(3).join(Worst::new(LAST + 1)),
+        Worst::new(u32::MAX)
+    );
+}
+
+fn two(a: u32, b: u32) -> Pair<Sum, Sum> {
+    Pair {
+        first: Sum::new(a),
+        second: Sum::new(b),
+    }
 }
 
 // Three sites, two sums under (10, 10): of four walks the best has (5, 6).
@@ -68,15 +89,8 @@ fn the_smaller_ratio_ranks_first(rt: HostRuntime) {
         first: 10,
         second: 10,
     };
-    let best = Pair {
-        first: Sum::new(5),
-        second: Sum::new(6),
-    };
-    for (a, b) in [(7, 4), (3, 8), (9, 2)] {
-        let other = Pair {
-            first: Sum::new(a),
-            second: Sum::new(b),
-        };
+    let best = two(5, 6);
+    for other in [two(7, 4), two(3, 8), two(9, 2)] {
         assert!(rt; ranks_before(best, other, limit));
         assert!(rt; !ranks_before(other, best, limit));
     }

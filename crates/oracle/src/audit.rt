@@ -1,95 +1,59 @@
 //! After a call: what the library holds is compared with the model, and what standing cards say with all walks.
-use crate::calls::{PlainReply, read_card, refusal};
-use crate::difference::Difference;
+use crate::calls::{PlainReply, read_card};
+use crate::difference::{Wrong, ensure};
 use crate::kind::Kind;
-use crate::lent::{BLANK, are_legs};
+use crate::lent::{BLANK, has_only};
 use crate::model::{LEGS, Model, PlainCard, PlainLink};
-use crate::request::Request;
-use crate::tally::{Tally, count};
-use crate::turn::{is_best, legs_of};
-use crate::walks::is_route;
-use catalogue::{Catalogue, Link, Links};
-use quotes::QuoteBook;
-
-fn plain_link<M: Kind>(link: Link<M>) -> PlainLink {
-    PlainLink {
-        start: link.start,
-        end: link.end,
-        value: link.value.figures(),
-    }
-}
-
-// Whether the same link stands at the place, or none.
-fn is_same_link<M: Kind>(catalogue: &Catalogue<'_, M>, model: &Model, place: usize) -> bool {
-    match (catalogue.link(place), model.link(place)) {
-        (None, None) => true,
-        (Some(link), Some(plain)) => plain_link(link) == plain,
-        _ => false,
-    }
-}
+use crate::tally::count;
+use crate::turn::Trial;
+use catalogue::Links;
+use report::Mark;
+use std::alloc::AllocError;
 
 // Whether the standing card says what is so: its answer is the best, and its legs are a walk of that value and number of legs.
-fn is_right(model: &Model, card: &PlainCard) -> bool {
-    if !is_best(model, card.ask, card.answer) {
-        return false;
+fn is_right(model: &Model, card: &PlainCard) -> Result<bool, AllocError> {
+    if !model.is_best(card.ask, card.answer)? {
+        return Ok(false);
     }
     match card.answer {
-        None => true,
-        Some(route) => {
-            route.legs == legs_of(card).len()
-                && is_route(&model.links, card.ask, legs_of(card), route.value)
-        }
+        None => Ok(true),
+        Some(route) => { Ok(route.legs == card.legs.len() && model.is_route(card, route.value)?) }
     }
 }
 
-// Reads the card, filled or not, and compares.
-fn audit_card<M: Kind>(
-    book: &QuoteBook<'_, M, M::Limit>,
-    model: &Model,
-    request: Request,
-    card: usize,
-    tally: &mut Tally,
-) -> Result<(), Difference> {
-    let mut numbers = [BLANK; LEGS];
-    let reply = read_card(book, card, &mut numbers, 1);
-    let Some(held) = model.card(card) else {
-        let number = if card < model.card_places { 13 } else { 5 };
-        if reply != refusal(number) || !are_legs(&numbers, 0, &[]) {
-            return Err(Difference::Card { request, card });
-        }
-        return Ok(());
-    };
-    let wanted = PlainReply::Held {
-        is_standing: held.is_standing,
-        answer: held.answer,
-    };
-    if reply != wanted || !are_legs(&numbers, 1, legs_of(&held)) {
-        return Err(Difference::Card { request, card });
+// Whether the reading is right: of a filled card its legs from number 1 on, and else a refusal and blanks.
+fn is_shown(model: &Model, card: usize, reply: PlainReply, numbers: &[u16]) -> bool {
+    match model.card(card) {
+        Ok(held) => reply == Ok(held.shown()) && has_only(numbers, 1, &held.legs, BLANK),
+        Err(cause) => reply == Err(cause.alone()) && has_only(numbers, 0, &[], BLANK),
     }
-    if held.is_standing {
-        count(&mut tally.standing);
-        if !is_right(model, &held) {
-            return Err(Difference::Standing { request, card });
-        }
-    }
-    Ok(())
 }
 
-// Compares every link place and every card place, and the one past the last of each.
-pub(crate) fn audit<M: Kind>(
-    catalogue: &Catalogue<'_, M>,
-    book: &QuoteBook<'_, M, M::Limit>,
-    model: &Model,
-    request: Request,
-    tally: &mut Tally,
-) -> Result<(), Difference> {
-    for place in 0..model.places.saturating_add(1) {
-        if !is_same_link(catalogue, model, place) {
-            return Err(Difference::Link { request, place });
+impl<M: Kind> Trial<'_, M, M::Limit> {
+    // Reads the card, filled or not, and compares.
+    fn audit_card(&mut self, card: usize) -> Result<(), Wrong> {
+        let mut numbers = [BLANK; LEGS];
+        let reply = read_card(&self.book, card, &mut numbers, 1);
+        let is_shown = is_shown(&self.model, card, reply, &numbers);
+        ensure(is_shown, Wrong::Card(card))?;
+        if let Ok(held) = self.model.card(card)
+            && held.mark == Mark::Standing
+        {
+            count(&mut self.tally.standing);
+            ensure(is_right(&self.model, held)?, Wrong::Standing(card))?;
         }
+        Ok(())
     }
-    for card in 0..model.card_places.saturating_add(1) {
-        audit_card(book, model, request, card, tally)?;
+
+    // Compares every link place and every card place, and the one past the last of each.
+    pub(crate) fn audit(&mut self) -> Result<(), Wrong> {
+        for place in 0..=self.model.links.len() {
+            let held = self.catalogue.link(place).map(PlainLink::from);
+            ensure(held == self.model.link(place), Wrong::Link(place))?;
+        }
+        for card in 0..=self.model.cards.len() {
+            self.audit_card(card)?;
+        }
+        Ok(())
     }
-    Ok(())
 }

@@ -3,78 +3,80 @@ use crate::figures::Share;
 use crate::kind::Kind;
 use crate::model::{PlainAsk, PlainLink, PlainRoute};
 use crate::request::Request;
-use cards::{Call, Reply};
+use crate::turn::Turn;
+use cards::{Answer, Call};
 use catalogue::{Catalogue, Link};
 use labels::Label;
 use quotes::{QuoteBook, change, discard, offer, perform, quote, read, recheck, withdraw};
 use report::{Mark, Refusal, Returned};
 use routing::{Ask, Route};
 
-// What a call answers.
+// What a call that is carried out answers.
 #[derive(Clone, Copy, PartialEq, Eq, Debug)]
-pub enum PlainReply {
+pub enum PlainAnswer {
     Counted(usize),
     Held {
-        is_standing: bool,
+        mark: Mark,
         answer: Option<PlainRoute>,
     },
-    Refused {
-        number: u8,
-        returned: Returned,
-    },
 }
 
-// What is answered by a refusal with which nothing is returned.
-pub(crate) fn refusal(number: u8) -> PlainReply {
-    PlainReply::Refused {
-        number,
-        returned: Returned::Nothing,
+// A refusal in print: its number, and what is returned with it.
+#[derive(Clone, Copy, PartialEq, Eq, Debug)]
+pub struct PlainRefusal {
+    pub number: u8,
+    pub returned: Returned,
+}
+
+// What a call answers, or its refusal.
+pub type PlainReply = Result<PlainAnswer, PlainRefusal>;
+
+impl From<Refusal> for PlainRefusal {
+    fn from(why: Refusal) -> PlainRefusal {
+        PlainRefusal {
+            number: why.number(),
+            returned: why.returned(),
+        }
     }
 }
 
-fn route_of<M: Kind>(route: Route<M>) -> PlainRoute {
-    PlainRoute {
-        legs: route.legs,
-        value: route.value.figures(),
-        share: Share {
-            top: route.ratio.top as u64,
-            bottom: route.ratio.bottom as u64,
-        },
+impl<M: Kind> From<Route<M>> for PlainRoute {
+    fn from(route: Route<M>) -> PlainRoute {
+        PlainRoute {
+            legs: route.legs,
+            value: route.value.figures(),
+            share: Share {
+                top: route.ratio.top as u64,
+                bottom: route.ratio.bottom as u64,
+            },
+        }
     }
 }
 
-fn held<M: Kind>(mark: Mark, answer: Option<Route<M>>) -> PlainReply {
-    let is_standing = mark == Mark::Standing;
-    PlainReply::Held {
-        is_standing,
-        answer: answer.map(route_of),
+impl<M: Kind> From<Link<M>> for PlainLink {
+    fn from(link: Link<M>) -> PlainLink {
+        PlainLink {
+            start: link.start,
+            end: link.end,
+            value: link.value.figures(),
+        }
     }
 }
 
-fn refused(why: Refusal) -> PlainReply {
-    PlainReply::Refused {
-        number: why.number(),
-        returned: why.returned(),
+fn held<M: Kind>(mark: Mark, answer: Option<Route<M>>) -> PlainAnswer {
+    PlainAnswer::Held {
+        mark,
+        answer: answer.map(PlainRoute::from),
     }
 }
 
-fn plain<M: Kind>(reply: Reply<M>) -> PlainReply {
-    match reply {
-        Ok(Answer::Counted(count)) => PlainReply::Counted(count),
-        Ok(Answer::Held { mark, answer }) => held(mark, answer),
-        Err(why) => refused(why),
+impl<M: Kind> From<Answer<M>> for PlainAnswer {
+    fn from(answer: Answer<M>) -> PlainAnswer {
+        match answer {
+            Answer::Counted(cards) => PlainAnswer::Counted(cards),
+            Answer::Held { mark, answer } => held(mark, answer),
+        }
     }
-}
-
-fn standing<M: Kind>(answer: Option<Route<M>>) -> Answer<M> {
-    Answer::Held {
-        mark: Mark::Standing,
-        answer,
-    }
-}
-
-fn shown<M: Kind>(outcome: Result<(Mark, Option<Route<M>>), Refusal>) -> Reply<M> {
-    outcome.map(|(mark, answer)| Answer::Held { mark, answer })
 }
 
 fn link_of<M: Kind>(link: PlainLink) -> Link<M> {
@@ -104,23 +106,14 @@ fn call_of<M: Kind>(request: Request) -> Call<M, M::Limit> {
             value: M::value_of(value),
         },
         Request::Withdraw { place } => Call::Withdraw { place },
-        Request::Quote {
-            card,
-            ask,
-            k,
-            room: _,
-        } => Call::Quote {
+        Request::Quote { card, ask, k, .. } => Call::Quote {
             card,
             ask: ask_of::<M>(ask),
             k,
         },
-        Request::Recheck { card, k, room: _ } => Call::Recheck { card, k },
+        Request::Recheck { card, k, .. } => Call::Recheck { card, k },
         Request::Discard { card } => Call::Discard { card },
-        Request::Read {
-            card,
-            start,
-            room: _,
-        } => Call::Read { card, start },
+        Request::Read { card, start, .. } => Call::Read { card, start },
     }
 }
 
@@ -131,50 +124,45 @@ fn call_itself<M: Kind>(
     workspace: &mut [Label<M>],
     reply: &mut [u16],
     request: Request,
-) -> Reply<M> {
+) -> Result<PlainAnswer, Refusal> {
     match request {
         Request::Offer { place, link } => {
-            Ok(Answer::Counted(offer(catalogue, book, place, link_of(link))?))
+            offer(catalogue, book, place, link_of(link)).map(PlainAnswer::Counted)
         }
         Request::Change { place, value } => {
-            Ok(Answer::Counted(change(catalogue, book, place, M::value_of(value))?))
+            change(catalogue, book, place, M::value_of(value)).map(PlainAnswer::Counted)
         }
-        Request::Withdraw { place } => Ok(Answer::Counted(withdraw(catalogue, book, place)?)),
-        Request::Quote {
-            card,
-            ask,
-            k,
-            room: _,
-        } => quote(&*catalogue, book, workspace, card, ask_of::<M>(ask), k).map(standing),
-        Request::Recheck { card, k, room: _ } => {
-            recheck(&*catalogue, book, workspace, card, k).map(standing)
+        Request::Withdraw { place } => withdraw(catalogue, book, place).map(PlainAnswer::Counted),
+        Request::Quote { card, ask, k, .. } => {
+            quote(&*catalogue, book, workspace, card, ask_of::<M>(ask), k).map(|answer| held(
+                Mark::Standing,
+                answer,
+            ))
         }
-        Request::Discard { card } => {
-            discard(book, card)?;
-            Ok(Answer::Counted(0))
+        Request::Recheck { card, k, .. } => recheck(&*catalogue, book, workspace, card, k).map(
+            |answer| held(Mark::Standing, answer),
+        ),
+        Request::Discard { card } => discard(book, card).map(|()| PlainAnswer::Counted(0)),
+        Request::Read { card, start, .. } => {
+            read(&*book, card, reply, start).map(|(mark, answer)| held(mark, answer))
         }
-        Request::Read {
-            card,
-            start,
-            room: _,
-        } => shown(read(&*book, card, reply, start)),
     }
 }
 
-// Carries out the request by its own call, or by the one call for all.
+// Carries out the turn's request by its own call, or by the one call for all.
 pub(crate) fn carry_out<M: Kind>(
     catalogue: &mut Catalogue<'_, M>,
     book: &mut QuoteBook<'_, M, M::Limit>,
     workspace: &mut [Label<M>],
     reply: &mut [u16],
-    request: Request,
-    by_its_own: bool,
+    turn: Turn,
 ) -> PlainReply {
-    plain(if by_its_own {
-        call_itself(catalogue, book, workspace, reply, request)
-    } else {
-        perform(catalogue, book, workspace, reply, call_of(request))
-    })
+    if turn.by_its_own {
+        return Ok(call_itself(catalogue, book, workspace, reply, turn.request)?);
+    }
+    let call = call_of(turn.request);
+    let answer = perform(catalogue, book, workspace, reply, call)?;
+    Ok(PlainAnswer::from(answer))
 }
 
 // What a reading of the card answers.
@@ -184,5 +172,6 @@ pub(crate) fn read_card<M: Kind>(
     reply: &mut [u16],
     start: usize,
 ) -> PlainReply {
-    plain(shown(read(book, card, reply, start)))
+    let (mark, answer) = read(book, card, reply, start)?;
+    Ok(held(mark, answer))
 }

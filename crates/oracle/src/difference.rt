@@ -1,27 +1,55 @@
 //! Where the library and the model disagree.
 use crate::calls::PlainReply;
 use crate::request::Request;
+use std::alloc::AllocError;
 
-#[derive(Clone, Copy, Debug)]
+#[derive(Clone, Copy, Debug, Drop)]
 pub enum Difference {
     // A size was refused that should not be, or the other way round.
     Size,
-    // A request was answered otherwise than foreseen.
-    Answer { request: Request, reply: PlainReply },
-    // A site was said to be full that has no more walks than labels.
-    NotFull { request: Request, reply: PlainReply },
-    // What was found is not the best, or there is something better than none.
-    NotBest { request: Request, reply: PlainReply },
-    // The workspace, or the numbers of a reply, are not as they should be.
-    Workspace { request: Request },
-    Numbers { request: Request },
-    // After the request another link stands at the place.
-    Link { request: Request, place: usize },
-    // After the request a reading of the card shows something else.
-    Card { request: Request, card: usize },
-    // After the request the standing card is wrong.
-    Standing { request: Request, card: usize },
+    // A request was carried out otherwise than it should be.
+    Call { request: Request, wrong: Wrong },
     // A feed's bytes read, or a record was written, otherwise than foreseen.
     Reading,
     Writing,
+    // There is no memory left to compare in.
+    NoMemory,
+}
+
+// What is wrong with a call.
+#[derive(Clone, Copy, Debug, Drop)]
+pub enum Wrong {
+    // It was answered otherwise than foreseen.
+    Answer(PlainReply),
+    // A site was said to be full that has no more walks than labels.
+    NotFull(PlainReply),
+    // What was found is not the best, or there is something better than none.
+    NotBest(PlainReply),
+    // The workspace, or the numbers of the reply, are not as they should be.
+    Workspace,
+    Numbers,
+    // Afterwards another link stands at the place.
+    Link(usize),
+    // Afterwards a reading of the card shows something else.
+    Card(usize),
+    // Afterwards the standing card is wrong.
+    Standing(usize),
+    NoMemory,
+}
+
+// Nothing, if what should hold does, and the error if not.
+pub(crate) fn ensure<E: Drop>(holds: bool, error: E) -> Result<(), E> {
+    if holds { Ok(()) } else { Err(error) }
+}
+
+impl From<AllocError> for Difference {
+    fn from(_error: AllocError) -> Difference {
+        Difference::NoMemory
+    }
+}
+
+impl From<AllocError> for Wrong {
+    fn from(_error: AllocError) -> Wrong {
+        Wrong::NoMemory
+    }
 }

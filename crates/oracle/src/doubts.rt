@@ -1,6 +1,7 @@
-//! Which cards fall into doubt, by the rule written anew.
+//! Which cards fall into doubt, by the rule written anew: nothing of the library's rule is used here.
 use crate::figures::{Figures, is_no_worse, ranks_before};
 use crate::model::PlainCard;
+use report::Mark;
 
 // What happened to the links.
 #[derive(Clone, Copy)]
@@ -20,23 +21,16 @@ pub enum News {
 
 // Whether one of the route's legs is the link at the place.
 fn uses_link(card: &PlainCard, place: usize) -> bool {
-    let legs = card.answer.map_or(0, |route| route.legs);
-    card.legs
-        .iter()
-        .take(legs)
-        .any(|leg| *leg as usize == place)
+    card.legs.iter().any(|leg| *leg as usize == place)
 }
 
 // Whether a walk with a new link of this value can be better than the answer.
 fn can_better(card: &PlainCard, value: Figures) -> bool {
     let limit = card.ask.limit;
-    if !is_no_worse(value, limit) {
-        return false;
-    }
-    match card.answer {
-        None => true,
-        Some(route) => ranks_before(value, route.value, limit),
-    }
+    is_no_worse(value, limit)
+        && card
+            .answer
+            .is_none_or(|route| ranks_before(value, route.value, limit))
 }
 
 fn is_struck(card: &PlainCard, news: News) -> bool {
@@ -44,13 +38,8 @@ fn is_struck(card: &PlainCard, news: News) -> bool {
         News::Offered { value } => can_better(card, value),
         News::Withdrawn { place } => uses_link(card, place),
         News::Changed { place, old, new } => {
-            if old == new {
-                return false;
-            }
-            if uses_link(card, place) {
-                return true;
-            }
-            !is_no_worse(old, new) && can_better(card, new)
+            old != new
+                && (uses_link(card, place) || (!is_no_worse(old, new) && can_better(card, new)))
         }
     }
 }
@@ -58,15 +47,9 @@ fn is_struck(card: &PlainCard, news: News) -> bool {
 // Takes the standing off the cards that the news strikes, and answers how many there are.
 pub(crate) fn put_in_doubt(cards: &mut [Option<PlainCard>], news: News) -> usize {
     let mut count = 0usize;
-    for place in cards.iter_mut() {
-        if let Some(card) = *place
-            && card.is_standing
-            && is_struck(&card, news)
-        {
-            *place = Some(PlainCard {
-                is_standing: false,
-                ..card
-            });
+    for card in cards.iter_mut().flatten() {
+        if card.mark == Mark::Standing && is_struck(card, news) {
+            card.mark = Mark::Doubtful;
             count = count.saturating_add(1);
         }
     }

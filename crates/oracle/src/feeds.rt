@@ -1,5 +1,6 @@
 //! Records of a feed: read from bytes by a decoding written anew, and written back.
-use crate::difference::Difference;
+use crate::difference::{Difference, ensure};
+use crate::lent::has_only;
 use crate::random::Random;
 use crate::tally::{Tally, count};
 use feed::{Measures, Reading, Record, read_record, write_record};
@@ -26,11 +27,13 @@ fn body_of(kind: u8) -> Option<usize> {
 
 // The number in so many bytes from the place on, the greatest first.
 fn number(bytes: &[u8], place: usize, width: usize) -> u32 {
-    let mut number = 0u32;
-    for byte in bytes.iter().skip(place).take(width) {
-        number = number.wrapping_mul(256).wrapping_add(*byte as u32);
-    }
-    number
+    bytes
+        .iter()
+        .skip(place)
+        .take(width)
+        .fold(0u32, |number, byte| {
+            number.wrapping_mul(256).wrapping_add(*byte as u32)
+        })
 }
 
 fn short(bytes: &[u8], place: usize) -> u16 {
@@ -89,21 +92,6 @@ fn foreseen(bytes: &[u8], place: usize) -> (Reading, usize) {
     (Ok(Some(record_of(part, kind))), present - body)
 }
 
-// Whether the buffer is unwritten but for the bytes from the place on.
-fn has_only(buffer: &[u8], place: usize, bytes: &[u8]) -> bool {
-    for (i, byte) in buffer.iter().enumerate() {
-        let wanted = if i < place {
-            UNWRITTEN
-        } else {
-            bytes.get(i - place).copied().unwrap_or(UNWRITTEN)
-        };
-        if *byte != wanted {
-            return false;
-        }
-    }
-    true
-}
-
 // Writes the record, which was read from these bytes, where there is room for it or not.
 fn try_writing(
     random: &mut Random,
@@ -118,17 +106,13 @@ fn try_writing(
     let outcome = write_record(record, lent, place);
     let next = place.saturating_add(bytes.len());
     let is_right = match outcome {
-        Ok(end) => next <= room && end == next && has_only(lent, place, bytes),
+        Ok(end) => next <= room && end == next && has_only(lent, place, bytes, UNWRITTEN),
         Err(why) => {
             tally.note_refusal(why.number());
-            next > room && why == Refusal::BufferTooShort && has_only(lent, 0, &[])
+            next > room && why == Refusal::BufferTooShort && has_only(lent, 0, &[], UNWRITTEN)
         }
     };
-    if is_right {
-        Ok(())
-    } else {
-        Err(Difference::Writing)
-    }
+    ensure(is_right, Difference::Writing)
 }
 
 fn random_feed(random: &mut Random) -> [u8; FEED] {
@@ -150,9 +134,8 @@ pub(crate) fn try_bytes(random: &mut Random, tally: &mut Tally) -> Result<(), Di
     let feed = &bytes[0..random.below(FEED + 1)];
     let place = random.below(FEED + 2).saturating_sub(random.below(FEED));
     let (reading, rest) = read_record(feed, place);
-    if (reading, rest.len()) != foreseen(feed, place) {
-        return Err(Difference::Reading);
-    }
+    let is_right = (reading, rest.len()) == foreseen(feed, place);
+    ensure(is_right, Difference::Reading)?;
     count(&mut tally.records);
     match reading {
         Ok(Some(record)) => {

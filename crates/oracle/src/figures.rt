@@ -1,11 +1,12 @@
 //! Values, limits and ratios as plain numbers, with an arithmetic of their own: nothing of the library's is used here.
-ghost use Rattle.std.specs.Prelude.{◌≡◌, ◌+◌, ◌<◌, ◌≤◌, ◌↔◌, ◌⊎◌, IsTrue};
+ghost use Rattle.std.specs.Prelude.{◌≡◌, ◌+◌, ◌<◌, ◌≤◌, ◌↔◌, IsTrue};
 
 // The number that stands for every number from it on; no link may have it, and no limit allows it.
 pub const OVER: u64 = 2147483648;
 
 // The numbers of a value or a limit. A kind that is weighed by delay alone has zeros beside it in its values, and ones in its limits.
-#[derive(Clone, Copy, PartialEq, Eq, Debug)]
+// Values come in the order of their delays, then of their prices, then of their classes.
+#[derive(Clone, Copy, PartialEq, Eq, PartialOrd, Ord, Debug)]
 pub struct Figures {
     pub delay: u64,
     pub price: u64,
@@ -68,19 +69,6 @@ pub(crate) fn is_no_worse(first: Figures, second: Figures) -> bool
     first.delay <= second.delay && first.price <= second.price && first.class <= second.class
 }
 
-// Whether the first value comes before the second: by delay, then by price, then by class.
-pub(crate) fn comes_first(first: Figures, second: Figures) -> bool
-    ensures { IsTrue result ↔ ((first.delay < second.delay) ⊎ ((first.delay ≡ second.delay) × ((first.price < second.price) ⊎ ((first.price ≡ second.price) × (first.class < second.class))))) }
-{
-    if first.delay != second.delay {
-        return first.delay < second.delay;
-    }
-    if first.price != second.price {
-        return first.price < second.price;
-    }
-    first.class < second.class
-}
-
 // Whether the first share is smaller: products of numbers of 32 bits fit.
 fn is_smaller(first: Share, second: Share) -> bool {
     first.top.saturating_mul(second.bottom) < second.top.saturating_mul(first.bottom)
@@ -116,5 +104,5 @@ pub(crate) fn share_of(value: Figures, limit: Figures) -> Share {
 pub(crate) fn ranks_before(first: Figures, second: Figures, limit: Figures) -> bool {
     let one = share_of(first, limit);
     let two = share_of(second, limit);
-    is_smaller(one, two) || (!is_smaller(two, one) && comes_first(first, second))
+    is_smaller(one, two) || (!is_smaller(two, one) && first < second)
 }

@@ -1,6 +1,6 @@
 //! What is lent for a call, the workspace and the reply, and how it should come back.
 use crate::kind::Kind;
-use crate::model::{Forecast, LEGS};
+use crate::model::{Forecast, Foreseen, LEGS};
 use crate::request::Request;
 use labels::{Label, State};
 
@@ -13,22 +13,8 @@ const MARKED: usize = 77;
 // How many labels, and how many numbers of the reply, are lent for the request.
 pub(crate) fn room_for(request: Request) -> (usize, usize) {
     match request {
-        Request::Quote {
-            card: _,
-            ask: _,
-            k: _,
-            room,
-        }
-        | Request::Recheck {
-            card: _,
-            k: _,
-            room,
-        } => (room, LEGS),
-        Request::Read {
-            card: _,
-            start: _,
-            room,
-        } => (0, room),
+        Request::Quote { room, .. } | Request::Recheck { room, .. } => (room, LEGS),
+        Request::Read { room, .. } => (0, room),
         _ => (0, LEGS),
     }
 }
@@ -56,26 +42,19 @@ fn is_as_left<M: Kind>(label: &Label<M>, is_used: bool) -> bool {
 
 // Whether routing left every label free, and every other call left them as they were.
 pub(crate) fn are_as_left<M: Kind>(labels: &[Label<M>], forecast: Forecast) -> bool {
-    let is_used = matches!(forecast, Forecast::Sought(_));
-    for label in labels {
-        if !is_as_left(label, is_used) {
-            return false;
-        }
-    }
-    true
+    let is_used = matches!(forecast, Ok(Foreseen::Sought(_)));
+    labels.iter().all(|label| is_as_left(label, is_used))
 }
 
-// Whether the numbers are these legs from the start place on, and blank elsewhere.
-pub(crate) fn are_legs(numbers: &[u16], start: usize, legs: &[u16]) -> bool {
-    for (i, number) in numbers.iter().enumerate() {
-        let wanted = if i < start {
-            BLANK
-        } else {
-            legs.get(i - start).copied().unwrap_or(BLANK)
-        };
-        if *number != wanted {
-            return false;
-        }
-    }
-    true
+// Whether these stand from the start place on, and blanks everywhere else.
+pub(crate) fn has_only<T: Copy + PartialEq>(
+    places: &[T],
+    start: usize,
+    these: &[T],
+    blank: T,
+) -> bool {
+    places.iter().enumerate().all(|(i, held)| {
+        let wanted = i.checked_sub(start).and_then(|i| these.get(i));
+        *held == wanted.copied().unwrap_or(blank)
+    })
 }

@@ -1,13 +1,14 @@
-//! What the catalogue and its quote book should hold, kept anew from the arguments of the calls and the rules alone.
+//! What the catalogue and its quote book should hold, kept anew from the arguments of the calls and the rules alone: nothing of the
+//! library's is used here but its words for a mark.
+use crate::calls::PlainAnswer;
+use crate::cause::Cause;
+use crate::difference::ensure;
 use crate::doubts::{News, put_in_doubt};
 use crate::figures::{Figures, Share, is_admitted, is_limit};
 use crate::request::Request;
-
-// The most link places that are tried.
-pub const PLACES: usize = 10;
-
-// The most card places that are tried.
-pub const CARDS: usize = 3;
+use report::Mark;
+use std::alloc::{AllocError, Global};
+use std::mem;
 
 // Room for the legs of a route: more than there are sites.
 pub const LEGS: usize = 8;
@@ -35,12 +36,12 @@ pub struct PlainRoute {
 }
 
 // A card with its legs, which are the library's: which of several equal walks it answers is free.
-#[derive(Clone, Copy)]
+#[derive(Drop)]
 pub struct PlainCard {
     pub ask: PlainAsk,
     pub answer: Option<PlainRoute>,
-    pub is_standing: bool,
-    pub legs: [u16; LEGS],
+    pub mark: Mark,
+    pub legs: Vec<u16>,
 }
 
 // What routing is to find: the best route for what is asked, with k labels a site, for the card.
@@ -51,109 +52,106 @@ pub struct Sought {
     pub k: usize,
 }
 
-// What a call should answer: a refusal by its number, how many cards fell into doubt, what a card holds, or what routing finds.
+// What is foreseen of a call that is carried out: what it answers, or what routing is to find.
 #[derive(Clone, Copy)]
-pub enum Forecast {
-    Refused(u8),
-    Counted(usize),
-    Held {
-        is_standing: bool,
-        answer: Option<PlainRoute>,
-    },
+pub enum Foreseen {
+    Answer(PlainAnswer),
     Sought(Sought),
 }
 
+// What a call should answer, or why it should be refused.
+pub type Forecast = Result<Foreseen, Cause>;
+
 #[derive(Drop)]
 pub struct Model {
+    pub alloc: Global,
     pub sites: usize,
-    pub places: usize,
-    pub card_places: usize,
-    pub links: [Option<PlainLink>; PLACES],
-    cards: [Option<PlainCard>; CARDS],
+    // A link or none for each link place.
+    pub links: Vec<Option<PlainLink>>,
+    pub cards: Vec<Option<PlainCard>>,
 }
 
-// Whether a workspace of so many labels is for another number of sites or walks, or k is outside 1 to 64.
-fn is_unfit(sites: usize, room: usize, k: usize) -> bool {
-    k == 0 || k > 64 || sites.saturating_mul(k) != room
+impl PlainCard {
+    // What a reading of the card answers.
+    pub(crate) fn shown(&self) -> PlainAnswer {
+        PlainAnswer::Held {
+            mark: self.mark,
+            answer: self.answer,
+        }
+    }
+}
+
+// Whether there is such a site among so many.
+fn is_site(sites: usize, site: u16) -> bool {
+    (site as usize) < sites
 }
 
 impl Model {
-    pub(crate) fn open(sites: usize, places: usize, card_places: usize) -> Model {
-        Model {
+    pub(crate) fn open(
+        alloc: Global,
+        sites: usize,
+        link_places: usize,
+        card_places: usize,
+    ) -> Result<Model, AllocError> {
+        let mut cards = Vec::new(alloc);
+        cards.resize_with(card_places, || None)?;
+        Ok(Model {
+            alloc,
             sites,
-            places,
-            card_places,
-            links: [None; PLACES],
-            cards: [None; CARDS],
-        }
-    }
-
-    fn has_no_site(&self, site: u16) -> bool {
-        site as usize >= self.sites
+            links: vec![in alloc; None; link_places]?,
+            cards,
+        })
     }
 
     pub(crate) fn link(&self, place: usize) -> Option<PlainLink> {
         self.links.get(place).copied().flatten()
     }
 
-    pub(crate) fn card(&self, card: usize) -> Option<PlainCard> {
-        self.cards.get(card).copied().flatten()
+    // The card, which is filled.
+    pub(crate) fn card(&self, card: usize) -> Result<&PlainCard, Cause> {
+        let held = self.cards.get(card).ok_or(Cause::NoSuchCard)?;
+        held.as_ref().ok_or(Cause::CardEmpty)
     }
 
     // Whether most link places are empty.
     pub(crate) fn is_sparse(&self) -> bool {
-        let links = self.links.iter().filter(|place| place.is_some()).count();
-        links <= self.places / 2
+        self.links.iter().flatten().count() <= self.links.len() / 2
     }
 
-    fn put_link(&mut self, place: usize, link: Option<PlainLink>) {
-        if let Some(held) = self.links.get_mut(place) {
-            *held = link;
+    // Files the card at its place.
+    pub(crate) fn file(&mut self, place: usize, card: PlainCard) {
+        if let Some(held) = self.cards.get_mut(place) {
+            *held = Some(card);
         }
     }
 
-    pub(crate) fn put_card(&mut self, card: usize, what: Option<PlainCard>) {
-        if let Some(held) = self.cards.get_mut(card) {
-            *held = what;
-        }
+    // Refuses a workspace of so many labels that is for another number of sites or walks, or a k outside 1 to 64.
+    fn check_room(&self, room: usize, k: usize) -> Result<(), Cause> {
+        let fits = (1..=64).contains(&k) && self.sites.saturating_mul(k) == room;
+        ensure(fits, Cause::WorkspaceSize)
     }
 
     fn spread(&mut self, news: News) -> Forecast {
-        Forecast::Counted(put_in_doubt(&mut self.cards, news))
+        let cards = put_in_doubt(&mut self.cards, news);
+        Ok(Foreseen::Answer(PlainAnswer::Counted(cards)))
     }
 
     fn offer(&mut self, place: usize, link: PlainLink) -> Forecast {
-        if place >= self.places {
-            return Forecast::Refused(4);
-        }
-        if self.has_no_site(link.start) || self.has_no_site(link.end) {
-            return Forecast::Refused(6);
-        }
-        if link.start == link.end {
-            return Forecast::Refused(7);
-        }
-        if !is_admitted(link.value) {
-            return Forecast::Refused(8);
-        }
-        if self.link(place).is_some() {
-            return Forecast::Refused(10);
-        }
-        self.put_link(place, Some(link));
+        let held = self.links.get_mut(place).ok_or(Cause::NoSuchLink)?;
+        ensure(is_site(self.sites, link.start), Cause::NoSuchSite)?;
+        ensure(is_site(self.sites, link.end), Cause::NoSuchSite)?;
+        ensure(link.start != link.end, Cause::EndsMeet)?;
+        ensure(is_admitted(link.value), Cause::ValueNotAdmitted)?;
+        ensure(held.is_none(), Cause::LinkTaken)?;
+        *held = Some(link);
         self.spread(News::Offered { value: link.value })
     }
 
     fn change(&mut self, place: usize, value: Figures) -> Forecast {
-        if place >= self.places {
-            return Forecast::Refused(4);
-        }
-        if !is_admitted(value) {
-            return Forecast::Refused(8);
-        }
-        let Some(link) = self.link(place) else {
-            return Forecast::Refused(11);
-        };
-        self.put_link(place, Some(PlainLink { value, ..link }));
-        let old = link.value;
+        let held = self.links.get_mut(place).ok_or(Cause::NoSuchLink)?;
+        ensure(is_admitted(value), Cause::ValueNotAdmitted)?;
+        let link = held.as_mut().ok_or(Cause::LinkEmpty)?;
+        let old = mem::replace(&mut link.value, value);
         self.spread(News::Changed {
             place,
             old,
@@ -162,84 +160,42 @@ impl Model {
     }
 
     fn withdraw(&mut self, place: usize) -> Forecast {
-        if place >= self.places {
-            return Forecast::Refused(4);
-        }
-        if self.link(place).is_none() {
-            return Forecast::Refused(11);
-        }
-        self.put_link(place, None);
+        let held = self.links.get_mut(place).ok_or(Cause::NoSuchLink)?;
+        held.take().ok_or(Cause::LinkEmpty)?;
         self.spread(News::Withdrawn { place })
     }
 
     fn quote(&self, card: usize, ask: PlainAsk, k: usize, room: usize) -> Forecast {
-        if card >= self.card_places {
-            return Forecast::Refused(5);
-        }
-        if self.has_no_site(ask.source) || self.has_no_site(ask.destination) {
-            return Forecast::Refused(6);
-        }
-        if !is_limit(ask.limit) {
-            return Forecast::Refused(9);
-        }
-        if self.card(card).is_some() {
-            return Forecast::Refused(12);
-        }
-        if is_unfit(self.sites, room, k) {
-            return Forecast::Refused(14);
-        }
-        Forecast::Sought(Sought { card, ask, k })
+        let held = self.cards.get(card).ok_or(Cause::NoSuchCard)?;
+        ensure(is_site(self.sites, ask.source), Cause::NoSuchSite)?;
+        ensure(is_site(self.sites, ask.destination), Cause::NoSuchSite)?;
+        ensure(is_limit(ask.limit), Cause::LimitNotAdmitted)?;
+        ensure(held.is_none(), Cause::CardFilled)?;
+        self.check_room(room, k)?;
+        Ok(Foreseen::Sought(Sought { card, ask, k }))
     }
 
     fn recheck(&self, card: usize, k: usize, room: usize) -> Forecast {
-        if card >= self.card_places {
-            return Forecast::Refused(5);
-        }
-        let Some(held) = self.card(card) else {
-            return Forecast::Refused(13);
-        };
-        if is_unfit(self.sites, room, k) {
-            return Forecast::Refused(14);
-        }
-        if held.is_standing {
-            return Forecast::Held {
-                is_standing: true,
-                answer: held.answer,
-            };
-        }
-        Forecast::Sought(Sought {
-            card,
-            ask: held.ask,
-            k,
+        let held = self.card(card)?;
+        self.check_room(room, k)?;
+        let ask = held.ask;
+        Ok(match held.mark {
+            Mark::Standing => Foreseen::Answer(held.shown()),
+            Mark::Doubtful => Foreseen::Sought(Sought { card, ask, k }),
         })
     }
 
     fn discard(&mut self, card: usize) -> Forecast {
-        if card >= self.card_places {
-            return Forecast::Refused(5);
-        }
-        if self.card(card).is_none() {
-            return Forecast::Refused(13);
-        }
-        self.put_card(card, None);
-        Forecast::Counted(0)
+        let held = self.cards.get_mut(card).ok_or(Cause::NoSuchCard)?;
+        held.take().ok_or(Cause::CardEmpty)?;
+        Ok(Foreseen::Answer(PlainAnswer::Counted(0)))
     }
 
     fn read(&self, card: usize, start: usize, room: usize) -> Forecast {
-        if card >= self.card_places {
-            return Forecast::Refused(5);
-        }
-        let Some(held) = self.card(card) else {
-            return Forecast::Refused(13);
-        };
-        let legs = held.answer.map_or(0, |route| route.legs);
-        if start.saturating_add(legs) > room {
-            return Forecast::Refused(15);
-        }
-        Forecast::Held {
-            is_standing: held.is_standing,
-            answer: held.answer,
-        }
+        let held = self.card(card)?;
+        let end = start.saturating_add(held.legs.len());
+        ensure(end <= room, Cause::ReplyTooShort)?;
+        Ok(Foreseen::Answer(held.shown()))
     }
 
     // What the request should be answered, and what is then held; but what routing finds is not put on its card yet.
@@ -254,17 +210,15 @@ impl Model {
             Request::Read { card, start, room } => self.read(card, start, room),
         }
     }
+}
 
-    // What the request should be answered with a quote book that is empty and for another number of sites.
-    pub(crate) fn foresee_elsewhere(&self, request: Request, card_places: usize) -> Forecast {
-        match request {
-            Request::Discard { card }
-            | Request::Read {
-                card,
-                start: _,
-                room: _,
-            } => Forecast::Refused(if card < card_places { 13 } else { 5 }),
-            _ => Forecast::Refused(3),
+// What the request should be answered with a quote book that is empty and for another number of sites.
+pub(crate) fn foresee_elsewhere(request: Request, card_places: usize) -> Forecast {
+    match request {
+        Request::Discard { card } | Request::Read { card, .. } if card < card_places => {
+            Err(Cause::CardEmpty)
         }
+        Request::Discard { .. } | Request::Read { .. } => Err(Cause::NoSuchCard),
+        _ => Err(Cause::SitesDiffer),
     }
 }

@@ -2,6 +2,7 @@
 use crate::figures::{Figures, OVER};
 use crate::model::{LEGS, Model, PlainAsk, PlainLink};
 use crate::random::Random;
+use report::Mark;
 
 // A call, with the room that is lent for it.
 #[derive(Clone, Copy, Debug)]
@@ -49,233 +50,246 @@ pub struct Style {
     pub has_all: bool,
 }
 
-// A number of a value: often 0, and otherwise up to 6, so that many are equal; seldom one at an end of its range.
-fn value_number(random: &mut Random, style: Style) -> u64 {
-    match random.below(300) {
-        0 => OVER,
-        1 => OVER - 1,
-        2 => u32::MAX as u64,
-        3..=80 => 0,
-        _ => style.scale.saturating_mul(random.below(7) as u64),
-    }
+// What a call is drawn from: random numbers, what the model holds, and how values are drawn.
+#[derive(Drop)]
+pub struct Draw<'a> {
+    pub random: &'a mut Random,
+    pub model: &'a Model,
+    pub style: Style,
 }
 
-fn value(random: &mut Random, style: Style) -> Figures {
-    let delay = value_number(random, style);
-    if !style.has_all {
-        return Figures {
-            delay,
-            price: 0,
-            class: 0,
-        };
-    }
-    Figures {
-        delay,
-        price: value_number(random, style),
-        class: value_number(random, style),
-    }
-}
-
-fn limit_number(random: &mut Random, style: Style) -> u64 {
-    match random.below(150) {
-        0 => OVER,
-        1 => 0,
-        2 => u32::MAX as u64,
-        3..=6 => OVER - 1,
-        _ => {
-            let small = random.below(14).max(random.below(14)) as u64;
-            style.scale.saturating_mul(small.max(1)).min(OVER - 1)
+impl Draw<'_> {
+    // A number of a value: often 0, and otherwise up to 6, so that many are equal; seldom one at an end of its range.
+    fn value_number(&mut self) -> u64 {
+        match self.random.below(300) {
+            0 => OVER,
+            1 => OVER - 1,
+            2 => u32::MAX as u64,
+            3..=80 => 0,
+            _ => self.style.scale.saturating_mul(self.random.below(7) as u64),
         }
     }
-}
 
-fn limit(random: &mut Random, style: Style) -> Figures {
-    let delay = limit_number(random, style);
-    if !style.has_all {
-        return Figures {
+    fn value(&mut self) -> Figures {
+        let delay = self.value_number();
+        if !self.style.has_all {
+            return Figures {
+                delay,
+                price: 0,
+                class: 0,
+            };
+        }
+        Figures {
             delay,
-            price: 1,
-            class: 1,
-        };
+            price: self.value_number(),
+            class: self.value_number(),
+        }
     }
-    if random.one_in(3) {
-        return Figures {
+
+    fn limit_number(&mut self) -> u64 {
+        match self.random.below(150) {
+            0 => OVER,
+            1 => 0,
+            2 => u32::MAX as u64,
+            3..=6 => OVER - 1,
+            _ => {
+                let small = self.random.below(14).max(self.random.below(14)) as u64;
+                self.style.scale.saturating_mul(small.max(1)).min(OVER - 1)
+            }
+        }
+    }
+
+    fn limit(&mut self) -> Figures {
+        let delay = self.limit_number();
+        if !self.style.has_all {
+            return Figures {
+                delay,
+                price: 1,
+                class: 1,
+            };
+        }
+        if self.random.one_in(3) {
+            return Figures {
+                delay,
+                price: delay,
+                class: delay,
+            };
+        }
+        Figures {
             delay,
-            price: delay,
-            class: delay,
+            price: self.limit_number(),
+            class: self.limit_number(),
+        }
+    }
+
+    // A site, or seldom a number that is no site's.
+    fn site(&mut self) -> u16 {
+        match self.random.below(120) {
+            0 => u16::try_from(self.model.sites).unwrap_or(u16::MAX),
+            1 => u16::MAX,
+            _ => self.random.site_below(self.model.sites),
+        }
+    }
+
+    // A place below the end, or seldom one past it.
+    fn place(&mut self, end: usize) -> usize {
+        match self.random.below(80) {
+            0 => end,
+            1 => usize::MAX,
+            _ => self.random.below(end),
+        }
+    }
+
+    // A link place: of two that are drawn the second, where the first is not as wanted, filled or empty.
+    fn link_place(&mut self, is_filled: bool) -> usize {
+        let first = self.place(self.model.links.len());
+        let second = self.place(self.model.links.len());
+        if self.model.link(first).is_some() == is_filled {
+            first
+        } else {
+            second
+        }
+    }
+
+    // A card place: of two that are drawn the second, where the first is not as wanted, which is empty or doubtful.
+    fn card_place(&mut self, is_filled: bool) -> usize {
+        let first = self.place(self.model.cards.len());
+        let second = self.place(self.model.cards.len());
+        let is_wanted = match self.model.card(first) {
+            Err(_) => !is_filled,
+            Ok(card) => is_filled && card.mark == Mark::Doubtful,
         };
+        if is_wanted { first } else { second }
     }
-    Figures {
-        delay,
-        price: limit_number(random, style),
-        class: limit_number(random, style),
-    }
-}
 
-// A site, or seldom a number that is no site's.
-fn site(random: &mut Random, sites: usize) -> u16 {
-    match random.below(120) {
-        0 => u16::try_from(sites).unwrap_or(u16::MAX),
-        1 => u16::MAX,
-        _ => random.site_below(sites),
+    // A site to go to from the start: seldom the start itself.
+    fn end_from(&mut self, start: u16) -> u16 {
+        let end = self.site();
+        if end != start || self.random.one_in(8) {
+            return end;
+        }
+        if end == 0 { 1 } else { end - 1 }
     }
-}
 
-// A place below the end, or seldom one past it.
-fn place(random: &mut Random, end: usize) -> usize {
-    match random.below(80) {
-        0 => end,
-        1 => usize::MAX,
-        _ => random.below(end),
+    fn link(&mut self) -> PlainLink {
+        let start = self.site();
+        PlainLink {
+            start,
+            end: self.end_from(start),
+            value: self.value(),
+        }
     }
-}
 
-// A link place: of two that are drawn the second, where the first is not as wanted, filled or empty.
-fn link_place(random: &mut Random, model: &Model, is_filled: bool) -> usize {
-    let first = place(random, model.places);
-    let second = place(random, model.places);
-    if model.link(first).is_some() == is_filled {
-        first
-    } else {
-        second
+    // Another value for the link at the place: often the same, or one that differs in the delay alone.
+    fn other_value(&mut self, place: usize) -> Figures {
+        let fresh = self.value();
+        let Some(link) = self.model.link(place) else {
+            return fresh;
+        };
+        match self.random.below(4) {
+            0 => link.value,
+            1 => Figures {
+                delay: fresh.delay,
+                ..link.value
+            },
+            _ => fresh,
+        }
     }
-}
 
-// A card place: of two that are drawn the second, where the first is not as wanted, which is empty or doubtful.
-fn card_place(random: &mut Random, model: &Model, is_filled: bool) -> usize {
-    let first = place(random, model.card_places);
-    let second = place(random, model.card_places);
-    let is_wanted = match model.card(first) {
-        None => !is_filled,
-        Some(card) => is_filled && !card.is_standing,
-    };
-    if is_wanted { first } else { second }
-}
-
-// A site to go to from the start: seldom the start itself.
-fn end_from(random: &mut Random, sites: usize, start: u16) -> u16 {
-    let end = site(random, sites);
-    if end != start || random.one_in(8) {
-        return end;
+    fn ask(&mut self) -> PlainAsk {
+        let source = self.site();
+        PlainAsk {
+            source,
+            destination: self.end_from(source),
+            limit: self.limit(),
+        }
     }
-    if end == 0 { 1 } else { end - 1 }
-}
 
-fn link(random: &mut Random, sites: usize, style: Style) -> PlainLink {
-    let start = site(random, sites);
-    let end = end_from(random, sites, start);
-    PlainLink {
-        start,
-        end,
-        value: value(random, style),
+    // How many labels a site has: few, so that they are full at times, and seldom a number at an end of its range.
+    fn labels_each(&mut self) -> usize {
+        match self.random.below(120) {
+            0 => 0,
+            1 => 64,
+            2 => 65,
+            3..=60 => 1,
+            61..=95 => 2,
+            _ => 3,
+        }
     }
-}
 
-// Another value for the link at the place: often the same, or one that differs in the delay alone.
-fn other_value(random: &mut Random, model: &Model, place: usize, style: Style) -> Figures {
-    let fresh = value(random, style);
-    let Some(link) = model.link(place) else {
-        return fresh;
-    };
-    match random.below(4) {
-        0 => link.value,
-        1 => Figures {
-            delay: fresh.delay,
-            ..link.value
-        },
-        _ => fresh,
+    // How many labels are lent: mostly as many as there should be.
+    fn label_room(&mut self, k: usize) -> usize {
+        if self.random.one_in(40) {
+            self.random.below(20)
+        } else {
+            self.model.sites.saturating_mul(k)
+        }
     }
-}
 
-fn ask(random: &mut Random, sites: usize, style: Style) -> PlainAsk {
-    let source = site(random, sites);
-    PlainAsk {
-        source,
-        destination: end_from(random, sites, source),
-        limit: limit(random, style),
+    fn quote(&mut self) -> Request {
+        let k = self.labels_each();
+        Request::Quote {
+            card: self.card_place(false),
+            ask: self.ask(),
+            k,
+            room: self.label_room(k),
+        }
     }
-}
 
-// How many labels a site has: few, so that they are full at times, and seldom a number at an end of its range.
-fn labels_each(random: &mut Random) -> usize {
-    match random.below(120) {
-        0 => 0,
-        1 => 64,
-        2 => 65,
-        3..=60 => 1,
-        61..=95 => 2,
-        _ => 3,
+    fn recheck(&mut self) -> Request {
+        let k = self.labels_each();
+        Request::Recheck {
+            card: self.card_place(true),
+            k,
+            room: self.label_room(k),
+        }
     }
-}
 
-// How many labels are lent: mostly as many as there should be.
-fn label_room(random: &mut Random, sites: usize, k: usize) -> usize {
-    if random.one_in(40) {
-        random.below(20)
-    } else {
-        sites.saturating_mul(k)
+    fn read(&mut self) -> Request {
+        let start = self.random.below(LEGS + 2);
+        Request::Read {
+            card: self.place(self.model.cards.len()),
+            start: if self.random.one_in(20) {
+                usize::MAX
+            } else {
+                start
+            },
+            room: self.random.below(LEGS + 1),
+        }
     }
-}
 
-fn quote(random: &mut Random, model: &Model, style: Style) -> Request {
-    let k = labels_each(random);
-    Request::Quote {
-        card: card_place(random, model, false),
-        ask: ask(random, model.sites, style),
-        k,
-        room: label_room(random, model.sites, k),
+    fn change(&mut self) -> Request {
+        let place = self.link_place(true);
+        Request::Change {
+            place,
+            value: self.other_value(place),
+        }
     }
-}
 
-fn recheck(random: &mut Random, model: &Model) -> Request {
-    let k = labels_each(random);
-    Request::Recheck {
-        card: card_place(random, model, true),
-        k,
-        room: label_room(random, model.sites, k),
+    fn offer(&mut self) -> Request {
+        Request::Offer {
+            place: self.link_place(false),
+            link: self.link(),
+        }
     }
-}
 
-fn read(random: &mut Random, model: &Model) -> Request {
-    let start = random.below(LEGS + 2);
-    Request::Read {
-        card: place(random, model.card_places),
-        start: if random.one_in(20) { usize::MAX } else { start },
-        room: random.below(LEGS + 1),
-    }
-}
-
-fn change(random: &mut Random, model: &Model, style: Style) -> Request {
-    let place = link_place(random, model, true);
-    Request::Change {
-        place,
-        value: other_value(random, model, place, style),
-    }
-}
-
-fn offer(random: &mut Random, model: &Model, style: Style) -> Request {
-    Request::Offer {
-        place: link_place(random, model, false),
-        link: link(random, model.sites, style),
-    }
-}
-
-// The next call: an offer more often while there are few links.
-pub(crate) fn draw(random: &mut Random, model: &Model, style: Style) -> Request {
-    if model.is_sparse() && random.one_in(2) {
-        return offer(random, model, style);
-    }
-    match random.below(100) {
-        0..=19 => offer(random, model, style),
-        20..=34 => change(random, model, style),
-        35..=41 => Request::Withdraw {
-            place: link_place(random, model, true),
-        },
-        42..=66 => quote(random, model, style),
-        67..=81 => recheck(random, model),
-        82..=95 => Request::Discard {
-            card: place(random, model.card_places),
-        },
-        _ => read(random, model),
+    // The next call: an offer more often while there are few links.
+    pub(crate) fn request(&mut self) -> Request {
+        if self.model.is_sparse() && self.random.one_in(2) {
+            return self.offer();
+        }
+        match self.random.below(100) {
+            0..=19 => self.offer(),
+            20..=34 => self.change(),
+            35..=41 => Request::Withdraw {
+                place: self.link_place(true),
+            },
+            42..=66 => self.quote(),
+            67..=81 => self.recheck(),
+            82..=95 => Request::Discard {
+                card: self.place(self.model.cards.len()),
+            },
+            _ => self.read(),
+        }
     }
 }

@@ -1,7 +1,6 @@
 //! Which sizes can be opened.
-ghost use Rattle.std.specs.Prelude.{◌≤◌, ◌↔◌, IsTrue};
-
-use crate::difference::Difference;
+use crate::cause::Cause;
+use crate::difference::{Difference, ensure};
 use crate::random::Random;
 use crate::tally::Tally;
 use catalogue::check_size;
@@ -30,29 +29,30 @@ fn row_numbers(random: &mut Random, sites: usize, cards: usize) -> usize {
     }
 }
 
-fn is_from_1_to(size: usize, most: usize) -> bool
-    ensures { IsTrue result ↔ ((1 ≤ size) × (size ≤ most)) }
-{
-    size != 0 && size <= most
+// Notes the refusal, and compares what is answered with what should be.
+fn check_answer(
+    tally: &mut Tally,
+    answer: Result<(), Refusal>,
+    wanted: Result<(), Cause>,
+) -> Result<(), Difference> {
+    let answer = answer.map_err(|why| why.number());
+    if let Err(number) = answer {
+        tally.note_refusal(number);
+    }
+    let wanted = wanted.map_err(|cause| cause.number());
+    ensure(answer == wanted, Difference::Size)
 }
 
-// Whether so many rows of this length have so many numbers, in numbers that do not wrap.
-fn is_product(sites: usize, cards: usize, numbers: usize) -> bool {
-    if sites == 0 || cards == 0 {
-        return numbers == 0;
-    }
-    numbers % cards == 0 && numbers / cards == sites
+// What a catalogue of the size should be answered.
+fn foresee_catalogue(sites: usize, places: usize) -> Result<(), Cause> {
+    let fits = (1..=256).contains(&sites) && (1..=4096).contains(&places);
+    ensure(fits, Cause::CatalogueSize)
 }
 
-// Notes the refusal, and answers whether it is the one that is wanted, if any is.
-fn is_wanted(tally: &mut Tally, outcome: Result<(), Refusal>, wanted: Option<u8>) -> bool {
-    match outcome {
-        Ok(()) => wanted.is_none(),
-        Err(why) => {
-            tally.note_refusal(why.number());
-            wanted == Some(why.number())
-        }
-    }
+// What a quote book of the size should be answered: a row for each card has a number for each site.
+fn foresee_book(sites: usize, cards: usize, numbers: usize) -> Result<(), Cause> {
+    let fits = (1..=256).contains(&cards) && sites.checked_mul(cards) == Some(numbers);
+    ensure(fits, Cause::QuoteBookSize)
 }
 
 // Tries a size of a catalogue and one of a quote book.
@@ -61,21 +61,8 @@ pub(crate) fn try_sizes(random: &mut Random, tally: &mut Tally) -> Result<(), Di
     let places = size(random, 4096);
     let cards = size(random, 256);
     let numbers = row_numbers(random, sites, cards);
-    let catalogue_wanted = if is_from_1_to(sites, 256) && is_from_1_to(places, 4096) {
-        None
-    } else {
-        Some(1)
-    };
-    let book_wanted = if is_from_1_to(cards, 256) && is_product(sites, cards, numbers) {
-        None
-    } else {
-        Some(2)
-    };
-    if is_wanted(tally, check_size(sites, places), catalogue_wanted)
-        && is_wanted(tally, check_book_size(sites, cards, numbers), book_wanted)
-    {
-        Ok(())
-    } else {
-        Err(Difference::Size)
-    }
+    let catalogue = check_size(sites, places);
+    check_answer(tally, catalogue, foresee_catalogue(sites, places))?;
+    let book = check_book_size(sites, cards, numbers);
+    check_answer(tally, book, foresee_book(sites, cards, numbers))
 }

@@ -1,7 +1,7 @@
 //! What was tried and compared, in numbers.
 ghost use Rattle.std.specs.Prelude.{◌≡◌, ◌+◌, ◌<◌, ◌^◌};
 
-use crate::calls::PlainReply;
+use crate::calls::{PlainAnswer, PlainReply};
 use std::fmt;
 
 // One more than the greatest number of a refusal.
@@ -20,6 +20,7 @@ pub struct Tally {
     // Cards that fell into doubt.
     pub doubted: u64,
     pub records: u64,
+    // How often each refusal came, by its number in print.
     refusals: [u64; REFUSALS],
 }
 
@@ -54,42 +55,35 @@ impl Tally {
     pub(crate) fn note_reply(&mut self, reply: PlainReply) {
         count(&mut self.calls);
         match reply {
-            PlainReply::Counted(cards) => self.doubted = self.doubted.saturating_add(cards as u64),
-            PlainReply::Refused {
-                number,
-                returned: _,
-            } => self.note_refusal(number),
-            PlainReply::Held {
-                is_standing: _,
-                answer: _,
-            } => {}
+            Ok(PlainAnswer::Counted(cards)) => {
+                self.doubted = self.doubted.saturating_add(cards as u64);
+            }
+            Ok(PlainAnswer::Held { .. }) => {}
+            Err(refusal) => self.note_refusal(refusal.number),
         }
     }
 
     // The first number of a refusal that never came.
     pub(crate) fn unreached(&self) -> Option<usize> {
-        for (number, counter) in self.refusals.iter().enumerate() {
-            if number > 0 && *counter == 0 {
-                return Some(number);
-            }
-        }
-        None
+        let mut counters = self.refusals.iter().enumerate().skip(1);
+        let (number, _) = counters.find(|(_, counter)| **counter == 0)?;
+        Some(number)
     }
 }
 
 impl fmt::Display for Tally {
     fn fmt<W: fmt::Write>(&self, f: &mut fmt::Formatter<W>) -> fmt::Result {
-        let catalogues = self.catalogues;
-        let calls = self.calls;
-        let standing = self.standing;
-        let routes = self.routes;
-        let nones = self.nones;
-        let full = self.full;
-        let doubted = self.doubted;
-        let records = self.records;
         write!(
             f,
-            "catalogues {catalogues}, calls {calls}, standing cards compared {standing}, routes {routes}, none {nones}, full {full}, doubted {doubted}, records {records}"
+            "catalogues {}, calls {}, standing cards compared {}, routes {}, none {}, full {}, doubted {}, records {}",
+            self.catalogues,
+            self.calls,
+            self.standing,
+            self.routes,
+            self.nones,
+            self.full,
+            self.doubted,
+            self.records
         )
     }
 }

@@ -1,218 +1,151 @@
 //! One call, by the library and by the model, and what of its answer can be compared at once.
-use crate::calls::{PlainReply, carry_out, read_card, refusal};
-use crate::crowd::is_crowded;
-use crate::difference::Difference;
-use crate::figures::share_of;
+use crate::calls::{PlainAnswer, PlainRefusal, PlainReply, carry_out, read_card};
+use crate::cause::Cause;
+use crate::crowd::is_crowd;
+use crate::difference::{Wrong, ensure};
 use crate::kind::Kind;
-use crate::lent::{BLANK, are_as_left, are_legs, mark_labels, room_for};
-use crate::model::{Forecast, LEGS, Model, PlainAsk, PlainCard, PlainRoute, Sought};
+use crate::lent::{BLANK, are_as_left, has_only, mark_labels, room_for};
+use crate::model::{Forecast, Foreseen, LEGS, Model, PlainCard, PlainRoute, Sought};
 use crate::request::Request;
 use crate::tally::{Tally, count};
-use crate::walks::best_value;
 use catalogue::Catalogue;
 use labels::Label;
 use quotes::QuoteBook;
-use report::Returned;
+use report::{Mark, Returned};
+use std::alloc::AllocError;
 
-// A request, what it should be answered, and whether it goes by its own call or by the one for all.
+// A request, what it should be answered, whether it goes by its own call or by the one for all, and whether to the quote book that is for
+// another number of sites.
 #[derive(Clone, Copy)]
 pub struct Turn {
     pub request: Request,
     pub forecast: Forecast,
     pub by_its_own: bool,
+    pub is_elsewhere: bool,
 }
 
-// The legs of the card's route.
-pub(crate) fn legs_of(card: &PlainCard) -> &[u16] {
-    let legs = card.answer.map_or(0, |route| route.legs);
-    &card.legs[..legs.min(LEGS)]
+// A catalogue, its quote book and another for one site more, what is lent to their calls, the model of what they hold, and what was tried.
+#[derive(Drop)]
+pub struct Trial<'a, M, L> {
+    pub catalogue: Catalogue<'a, M>,
+    pub book: QuoteBook<'a, M, L>,
+    pub other: QuoteBook<'a, M, L>,
+    pub labels: &'a mut [Label<M>],
+    pub model: Model,
+    pub tally: &'a mut Tally,
 }
 
-// Whether what is answered is what the best walk is worth, or none where there is none.
-pub(crate) fn is_best(model: &Model, ask: PlainAsk, answer: Option<PlainRoute>) -> bool {
-    let best = best_value(&model.links, model.sites, ask);
-    match (best, answer) {
-        (None, None) => true,
-        (Some(value), Some(route)) => {
-            value == route.value && share_of(value, ask.limit) == route.share
-        }
-        _ => false,
+// The second of the two, or the first.
+fn pick<'x, T>(first: &'x mut T, second: &'x mut T, is_second: bool) -> &'x mut T {
+    if is_second { second } else { first }
+}
+
+// The site whose labels are said to be full.
+fn full_site(returned: Returned) -> Option<u16> {
+    match returned {
+        Returned::One(site) => u16::try_from(site).ok(),
+        _ => None,
     }
 }
 
-// The legs in the card's row, as a reading gives them.
-fn read_legs<M: Kind>(book: &QuoteBook<'_, M, M::Limit>, card: usize) -> [u16; LEGS] {
-    let mut legs = [BLANK; LEGS];
-    let _reply = read_card(book, card, &mut legs, 0);
-    legs
-}
-
-// Compares what routing answered, and files it on the model's card.
-fn check_found<M: Kind>(
-    book: &QuoteBook<'_, M, M::Limit>,
-    model: &mut Model,
-    sought: Sought,
-    answer: Option<PlainRoute>,
-) -> bool {
-    let Sought { card, ask, k: _ } = sought;
-    if !is_best(model, ask, answer) {
-        return false;
-    }
-    let legs = read_legs(book, card);
-    model.put_card(
-        card,
-        Some(PlainCard {
-            ask,
-            answer,
-            is_standing: true,
-            legs,
-        }),
-    );
-    true
-}
-
-fn count_found(tally: &mut Tally, answer: Option<PlainRoute>) {
-    match answer {
-        Some(_) => count(&mut tally.routes),
-        None => count(&mut tally.nones),
-    }
-}
-
-// Whether there are so many walks to the site that is returned that its labels cannot hold them.
-fn is_full(model: &Model, sought: Sought, returned: Returned) -> bool {
-    let Returned::One(site) = returned else {
-        return false;
-    };
-    let Ok(site) = u16::try_from(site) else {
-        return false;
-    };
-    is_crowded(&model.links, model.sites, sought, site)
-}
-
-// Compares what was answered where routing was foreseen: a route, none, or that a site is full, which is left open.
-fn check_sought<M: Kind>(
-    book: &QuoteBook<'_, M, M::Limit>,
-    model: &mut Model,
-    sought: Sought,
-    request: Request,
-    reply: PlainReply,
-    tally: &mut Tally,
-) -> Result<(), Difference> {
-    match reply {
-        PlainReply::Refused {
-            number: 16,
-            returned,
-        } => {
-            if !is_full(model, sought, returned) {
-                return Err(Difference::NotFull { request, reply });
-            }
-            count(&mut tally.full);
-            Ok(())
-        }
-        PlainReply::Held {
-            is_standing: true,
-            answer,
-        } => {
-            if !check_found(book, model, sought, answer) {
-                return Err(Difference::NotBest { request, reply });
-            }
-            count_found(tally, answer);
-            Ok(())
-        }
-        _ => Err(Difference::Answer { request, reply }),
-    }
-}
-
-// Compares what was answered where no routing was foreseen.
-fn check_reply(
-    forecast: PlainReply,
-    request: Request,
-    reply: PlainReply,
-) -> Result<(), Difference> {
-    if forecast == reply {
+impl<M: Kind> Trial<'_, M, M::Limit> {
+    // Compares what was said of a full site: there are more walks to it than its labels hold, none dominating another.
+    fn check_full(
+        &mut self,
+        sought: Sought,
+        returned: Returned,
+        reply: PlainReply,
+    ) -> Result<(), Wrong> {
+        let site = full_site(returned).ok_or(Wrong::NotFull(reply))?;
+        let values = self.model.values_to(sought.ask, site)?;
+        let is_full = is_crowd(self.model.alloc, values, sought.k)?;
+        ensure(is_full, Wrong::NotFull(reply))?;
+        count(&mut self.tally.full);
         Ok(())
-    } else {
-        Err(Difference::Answer { request, reply })
     }
-}
 
-// Compares the reply with what was foreseen.
-fn check_forecast<M: Kind>(
-    book: &QuoteBook<'_, M, M::Limit>,
-    model: &mut Model,
-    forecast: Forecast,
-    request: Request,
-    reply: PlainReply,
-    tally: &mut Tally,
-) -> Result<(), Difference> {
-    match forecast {
-        Forecast::Sought(sought) => check_sought(book, model, sought, request, reply, tally),
-        Forecast::Refused(number) => check_reply(refusal(number), request, reply),
-        Forecast::Counted(cards) => check_reply(PlainReply::Counted(cards), request, reply),
-        Forecast::Held {
-            is_standing,
+    // Files on the model's card what routing answered for it, with the legs in the card's row, as a reading gives them.
+    fn file(&mut self, sought: Sought, answer: Option<PlainRoute>) -> Result<(), AllocError> {
+        let mut numbers = [BLANK; LEGS];
+        let _reply = read_card(&self.book, sought.card, &mut numbers, 0);
+        let legs = answer.map_or(0, |route| route.legs).min(LEGS);
+        let card = PlainCard {
+            ask: sought.ask,
             answer,
-        } => check_reply(
-            PlainReply::Held {
-                is_standing,
-                answer,
-            },
-            request,
-            reply,
-        ),
+            mark: Mark::Standing,
+            legs: numbers[0..legs].to_vec(self.model.alloc)?,
+        };
+        self.model.file(sought.card, card);
+        Ok(())
     }
-}
 
-// Whether the reply's numbers are the legs of the card that was read, or blank after any other call.
-fn are_numbers_right(model: &Model, forecast: Forecast, request: Request, numbers: &[u16]) -> bool {
-    let Forecast::Held {
-        is_standing: _,
-        answer: _,
-    } = forecast
-    else {
-        return are_legs(numbers, 0, &[]);
-    };
-    let Request::Read {
-        card,
-        start,
-        room: _,
-    } = request
-    else {
-        return are_legs(numbers, 0, &[]);
-    };
-    match model.card(card) {
-        Some(held) => are_legs(numbers, start, legs_of(&held)),
-        None => false,
+    // Compares what routing answered, a route or none, and files it.
+    fn check_found(
+        &mut self,
+        sought: Sought,
+        answer: Option<PlainRoute>,
+        reply: PlainReply,
+    ) -> Result<(), Wrong> {
+        let is_best = self.model.is_best(sought.ask, answer)?;
+        ensure(is_best, Wrong::NotBest(reply))?;
+        self.file(sought, answer)?;
+        match answer {
+            Some(_) => count(&mut self.tally.routes),
+            None => count(&mut self.tally.nones),
+        }
+        Ok(())
     }
-}
 
-// Has the request carried out by the library, and compares what it answers and what comes back with what the model foresees.
-pub(crate) fn take_turn<M: Kind>(
-    catalogue: &mut Catalogue<'_, M>,
-    book: &mut QuoteBook<'_, M, M::Limit>,
-    labels: &mut [Label<M>],
-    model: &mut Model,
-    turn: Turn,
-    tally: &mut Tally,
-) -> Result<(), Difference> {
-    let Turn {
-        request,
-        forecast,
-        by_its_own,
-    } = turn;
-    let (label_room, number_room) = room_for(request);
-    let room = label_room.min(labels.len());
-    let workspace = &mut labels[0..room];
-    mark_labels(workspace);
-    let mut numbers = [BLANK; LEGS];
-    let lent = &mut numbers[0..number_room.min(LEGS)];
-    let reply = carry_out(catalogue, book, workspace, lent, request, by_its_own);
-    tally.note_reply(reply);
-    if !are_as_left(workspace, forecast) {
-        return Err(Difference::Workspace { request });
+    // Compares what was answered where routing was foreseen: a route, none, or that a site is full, which is left open.
+    fn check_sought(&mut self, sought: Sought, reply: PlainReply) -> Result<(), Wrong> {
+        match reply {
+            Err(PlainRefusal { number, returned }) if number == Cause::LabelsFull.number() => {
+                self.check_full(sought, returned, reply)
+            }
+            Ok(
+                PlainAnswer::Held {
+                    mark: Mark::Standing,
+                    answer,
+                },
+            ) => self.check_found(sought, answer, reply),
+            _ => Err(Wrong::Answer(reply)),
+        }
     }
-    if !are_numbers_right(model, forecast, request, lent) {
-        return Err(Difference::Numbers { request });
+
+    // Compares the reply with what was foreseen.
+    fn check_reply(&mut self, forecast: Forecast, reply: PlainReply) -> Result<(), Wrong> {
+        let wanted = match forecast {
+            Ok(Foreseen::Sought(sought)) => return self.check_sought(sought, reply),
+            Ok(Foreseen::Answer(answer)) => Ok(answer),
+            Err(cause) => Err(cause.alone()),
+        };
+        ensure(reply == wanted, Wrong::Answer(reply))
     }
-    check_forecast(&*book, model, forecast, request, reply, tally)
+
+    // Whether the reply's numbers are the legs of the card that was read, or blank after any other call.
+    fn are_numbers_right(&self, turn: Turn, numbers: &[u16]) -> bool {
+        match (turn.request, turn.forecast) {
+            (Request::Read { card, start, .. }, Ok(_)) => self
+                .model
+                .card(card)
+                .is_ok_and(|held| has_only(numbers, start, &held.legs, BLANK)),
+            _ => has_only(numbers, 0, &[], BLANK),
+        }
+    }
+
+    // Has the request carried out by the library, and compares what it answers and what comes back with what the model foresees.
+    pub(crate) fn take(&mut self, turn: Turn) -> Result<(), Wrong> {
+        let (label_room, number_room) = room_for(turn.request);
+        let room = label_room.min(self.labels.len());
+        let workspace = &mut self.labels[0..room];
+        mark_labels(workspace);
+        let mut numbers = [BLANK; LEGS];
+        let lent = &mut numbers[0..number_room.min(LEGS)];
+        let book = pick(&mut self.book, &mut self.other, turn.is_elsewhere);
+        let reply = carry_out(&mut self.catalogue, book, workspace, lent, turn);
+        self.tally.note_reply(reply);
+        ensure(are_as_left(workspace, turn.forecast), Wrong::Workspace)?;
+        ensure(self.are_numbers_right(turn, lent), Wrong::Numbers)?;
+        self.check_reply(turn.forecast, reply)
+    }
 }

@@ -1,195 +1,151 @@
-//! What the tests share: links, questions and what is checked of their answers.
-use catalogue::walks::follow;
+//! What the tests share: values, questions, what is found for them, and how a network is asked.
+use catalogue::walks::{Reached, follow};
 use catalogue::{Catalogue, Link, Links};
 use labels::Label;
 use measure::pair::Pair;
 use measure::scalar::Sum;
 use measure::{Measure, Ratio};
 use report::Refusal;
-use routing::{Ask, Route, find_route};
+use routing::{Ask, Route, find_route, free_label};
+use std::alloc::{AllocError, Allocator};
+use std::fmt::Debug;
 use std::process::Abort;
 use std::test::Fail;
 
 pub(crate) type Two = Pair<Sum, Sum>;
 
-pub(crate) type Three = Pair<Pair<Sum, Sum>, Sum>;
+pub(crate) type Three = Pair<Two, Sum>;
+
+// What is found: the value and ratio of a route, no route, or a refusal.
+pub(crate) type Found<M> = Result<Option<(M, Ratio)>, Refusal>;
+
+// How many sites and link places a network has, and how many labels there are to lend.
+#[derive(Clone, Copy)]
+pub(crate) struct Sizes {
+    pub sites: usize,
+    pub places: usize,
+    pub labels: usize,
+}
+
+pub(crate) fn pair<A, B>(first: A, second: B) -> Pair<A, B> {
+    Pair { first, second }
+}
 
 pub(crate) fn two(a: u32, b: u32) -> Two {
-    Pair {
-        first: Sum::new(a),
-        second: Sum::new(b),
-    }
+    pair(Sum::new(a), Sum::new(b))
 }
 
 pub(crate) fn three(a: u32, b: u32, c: u32) -> Three {
-    Pair {
-        first: two(a, b),
-        second: Sum::new(c),
-    }
+    pair(two(a, b), Sum::new(c))
 }
 
 pub(crate) fn link<M: Measure>(start: u16, end: u16, value: M) -> Link<M> {
     Link { start, end, value }
 }
 
-pub(crate) fn share(top: u32, bottom: u32) -> Ratio {
-    Ratio { top, bottom }
+pub(crate) fn ask<L>(source: u16, destination: u16, limit: L) -> Ask<L> {
+    Ask {
+        source,
+        destination,
+        limit,
+    }
 }
 
 // A question under two limits of 10.
 pub(crate) fn under_tens(source: u16, destination: u16) -> Ask<Pair<u32, u32>> {
-    Ask {
-        source,
-        destination,
-        limit: Pair {
-            first: 10,
-            second: 10,
-        },
+    ask(source, destination, pair(10, 10))
+}
+
+// A route of this value and of the ratio `top / bottom` is found.
+pub(crate) fn best<M: Measure>(value: M, top: u32, bottom: u32) -> Found<M> {
+    Ok(Some((value, Ratio { top, bottom })))
+}
+
+// The labels of this site are full.
+pub(crate) fn full<M: Measure>(site: usize) -> Found<M> {
+    Err(Refusal::LabelsFull { site })
+}
+
+// Each link in both directions, one after the other.
+pub(crate) fn both_ways<M: Measure, A: Allocator>(
+    alloc: A,
+    links: &[Link<M>],
+) -> Result<Vec<Link<M>, A>, AllocError> {
+    let mut both = Vec::new(alloc);
+    for there in links.iter().copied() {
+        both.push(there)?;
+        both.push(link(there.end, there.start, there.value))?;
     }
+    Ok(both)
+}
+
+// The legs of the route stand at the head of the row: a walk from the source to the destination, of the route's value. Zeros follow.
+fn check_legs<M: Measure + PartialEq + Debug>(
+    rt: &impl Abort,
+    network: &Catalogue<'_, M>,
+    source: u16,
+    destination: u16,
+    row: &[u16],
+    route: &Route<M>,
+) -> Result<(), Fail> {
+    let (legs, rest) = row.split_at_checked(route.legs).ok_or("too many legs")?;
+    let end = Reached {
+        site: destination,
+        value: route.value,
+    };
+    assert_eq!(rt; follow(network, source, legs), Some(end));
+    assert!(rt; rest.iter().all(|number| *number == 0));
+    Ok(())
+}
+
+// With k labels a site, the first of those lent, this is found for the question. A refusal leaves the row as it was.
+pub(crate) fn check_answer<M: Measure + PartialEq + Debug>(
+    rt: &impl Abort,
+    network: &Catalogue<'_, M>,
+    labels: &mut [Label<M>],
+    k: usize,
+    ask: Ask<M::Limit>,
+    want: Found<M>,
+) -> Result<(), Fail> {
+    let (source, destination) = (ask.source, ask.destination);
+    let mut row = [9; 16];
+    let size = network.sites().saturating_mul(k).min(labels.len());
+    let answer = find_route(network, &mut labels[0..size], k, ask, &mut row);
+    match &answer {
+        Ok(Some(route)) => check_legs(rt, network, source, destination, &row, route)?,
+        Ok(None) => assert_eq!(rt; row, [0; 16]),
+        Err(_) => assert_eq!(rt; row, [9; 16]),
+    }
+    let found = answer.map(|best| best.map(|route| (route.value, route.ratio)));
+    assert_eq!(rt; found, want);
+    Ok(())
 }
 
 // Stores the links in order, from place 0 on.
 pub(crate) fn store_all<M: Measure>(
-    catalogue: &mut Catalogue<'_, M>,
+    network: &mut Catalogue<'_, M>,
     links: &[Link<M>],
 ) -> Result<(), Fail> {
-    for (i, link) in links.iter().copied().enumerate() {
-        catalogue.store(i, link)?;
+    for (place, link) in links.iter().copied().enumerate() {
+        network.store(place, link)?;
     }
     Ok(())
 }
 
-// Stores each link in both directions, at the places 2i and 2i + 1.
-pub(crate) fn store_both_ways<M: Measure>(
-    catalogue: &mut Catalogue<'_, M>,
+// In a network of these sizes, with these links from place 0 on, what stands beside them is found for the questions, each with so many
+// labels a site.
+pub(crate) fn check_answers<M: Measure + PartialEq + Debug>(
+    rt: &(impl Abort + Alloc),
+    sizes: Sizes,
     links: &[Link<M>],
+    cases: &[(usize, Ask<M::Limit>, Found<M>)],
 ) -> Result<(), Fail> {
-    for (i, link) in links.iter().copied().enumerate() {
-        let place = i.saturating_mul(2);
-        let back = Link {
-            start: link.end,
-            end: link.start,
-            value: link.value,
-        };
-        catalogue.store(place, link)?;
-        catalogue.store(place.saturating_add(1), back)?;
+    let mut places = vec![in rt.alloc(); None; sizes.places]?;
+    let mut labels = vec![in rt.alloc(); free_label::<M>(); sizes.labels]?;
+    let mut network = Catalogue::open(&mut places, sizes.sites);
+    store_all(&mut network, links)?;
+    for (k, ask, want) in cases.iter().copied() {
+        check_answer(rt, &network, &mut labels, k, ask, want)?;
     }
-    Ok(())
-}
-
-// Asks with k labels a site, the first of those lent.
-fn answer<M: Measure>(
-    network: &Catalogue<'_, M>,
-    labels: &mut [Label<M>],
-    k: usize,
-    ask: Ask<M::Limit>,
-    row: &mut [u16],
-) -> Result<Option<Route<M>>, Refusal> {
-    let size = network.sites().saturating_mul(k).min(labels.len());
-    find_route(network, &mut labels[0..size], k, ask, row)
-}
-
-fn check_zeros(rt: &impl Abort, numbers: &[u16]) {
-    for number in numbers {
-        assert!(rt; *number == 0);
-    }
-}
-
-// The first of the row's numbers are the legs of a walk that is asked for, of this value; zeros follow them.
-fn check_legs<M: Measure + PartialEq>(
-    rt: &impl Abort,
-    network: &Catalogue<'_, M>,
-    ask: Ask<M::Limit>,
-    row: &[u16],
-    legs: usize,
-    value: M,
-) -> Result<(), Fail> {
-    assert!(rt; legs <= row.len());
-    let Some(reached) = follow(network, ask.source, &row[0..legs]) else {
-        return Err(Fail::new("the legs are no walk"));
-    };
-    assert!(rt; reached.site == ask.destination);
-    assert!(rt; reached.value == value);
-    check_zeros(rt, &row[legs..]);
-    Ok(())
-}
-
-// A route of this value and ratio is found.
-pub(crate) fn check_route<M: Measure + PartialEq>(
-    rt: &impl Abort,
-    network: &Catalogue<'_, M>,
-    labels: &mut [Label<M>],
-    k: usize,
-    ask: Ask<M::Limit>,
-    value: M,
-    ratio: Ratio,
-) -> Result<(), Fail> {
-    let mut row = [9; 16];
-    let Some(route) = answer(network, labels, k, ask, &mut row)? else {
-        return Err(Fail::new("no route"));
-    };
-    assert!(rt; route.value == value);
-    assert_eq!(rt; route.ratio, ratio);
-    check_legs(rt, network, ask, &row, route.legs, value)
-}
-
-// No route is found.
-pub(crate) fn check_none<M: Measure>(
-    rt: &impl Abort,
-    network: &Catalogue<'_, M>,
-    labels: &mut [Label<M>],
-    k: usize,
-    ask: Ask<M::Limit>,
-) -> Result<(), Fail> {
-    let mut row = [9; 16];
-    let found = answer(network, labels, k, ask, &mut row)?;
-    assert!(rt; found.is_none());
-    check_zeros(rt, &row);
-    Ok(())
-}
-
-// The labels of this site are full, and the row is as it was.
-pub(crate) fn check_full<M: Measure>(
-    rt: &impl Abort,
-    network: &Catalogue<'_, M>,
-    labels: &mut [Label<M>],
-    k: usize,
-    ask: Ask<M::Limit>,
-    site: usize,
-) -> Result<(), Fail> {
-    let mut row = [9; 16];
-    let found = answer(network, labels, k, ask, &mut row);
-    check_refused(rt, found, Refusal::LabelsFull { site })?;
-    assert_eq!(rt; row, [9; 16]);
-    Ok(())
-}
-
-pub(crate) fn check_refused<M: Measure>(
-    rt: &impl Abort,
-    found: Result<Option<Route<M>>, Refusal>,
-    why: Refusal,
-) -> Result<(), Fail> {
-    match found {
-        Ok(_) => Err(Fail::new("not refused")),
-        Err(refusal) => {
-            assert_eq!(rt; refusal, why);
-            Ok(())
-        },
-    }
-}
-
-// The route that is found has so many legs.
-pub(crate) fn check_legs_number<M: Measure>(
-    rt: &impl Abort,
-    network: &Catalogue<'_, M>,
-    labels: &mut [Label<M>],
-    ask: Ask<M::Limit>,
-    legs: usize,
-) -> Result<(), Fail> {
-    let mut row = [9; 16];
-    let Some(route) = answer(network, labels, 1, ask, &mut row)? else {
-        return Err(Fail::new("no route"));
-    };
-    assert_eq!(rt; route.legs, legs);
     Ok(())
 }
