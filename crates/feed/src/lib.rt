@@ -276,9 +276,11 @@ impl<'a> Iterator for Records<'a> {
     }
 }
 
-// The records of the feed from its first byte on.
+// The records of the feed from its first byte on; there are no more of them than bytes.
+#[tactic(auto, using(records::proofs::Records::no_more))]
 pub fn read_records(feed: &[u8]) -> Records<'_>
-    ensures { unread result ≡ records_from feed.now 0 }
+    ensures records { unread result ≡ records_from feed.now 0 }
+    ensures within { length (unread result) ≤ length feed.now }
 {
     Records { feed, start: 0 }
 }

@@ -2,7 +2,6 @@
 use Rattle.std.proofs.Common.{◌≡◌, ℕ, zero, suc, ◌+◌, ◌-◌, ◌<◌, ◌≤◌, cond, List, [], ◌∷◌, length, drop, Some, None, Ok, Err, Option, Result, sym, refl, ap, subst, ◌∙◌, ⊎_elim, arith, length-drop}
 use Rattle.std.proofs.lemmas.Bool.{cases_lt, le-leb}
 use Rattle.std.proofs.lemmas.List.{drop_all}
-use Rattle.std.proofs.lemmas.Grind.{common_steps}
 use Rattle.std.specs.Iterator.{YieldsFirst}
 use Rattle.std.specs.Result.{result_transpose}
 use Rattle.report.specs.declared.Refusal.{Refusal}
@@ -33,6 +32,28 @@ same_come : (reading : Result (Option Record) Refusal) {xs ys : List (Result Rec
 same_come (Ok (Some it)) same = ap (λ xs. Ok it ∷ xs) (same it refl)
 same_come (Ok None) same = refl
 same_come (Err why) same = refl
+
+come_record : (reading : Result (Option Record) Refusal) {it : Record} {xs others : List (Result Record Refusal)}
+    → come reading xs ≡ Ok it ∷ others → (reading ≡ Ok (Some it)) × (others ≡ xs)
+come_record (Ok (Some r)) e = (cc, cc)
+come_record (Ok None) e = absurd cc
+come_record (Err why) e = absurd cc
+
+come_refusal : (reading : Result (Option Record) Refusal) (xs : List (Result Record Refusal)) {why : Refusal} {others : List (Result Record Refusal)}
+    → come reading xs ≡ Err why ∷ others → reading ≡ Err why
+come_refusal (Ok (Some r)) xs e = absurd cc
+come_refusal (Ok None) xs e = absurd cc
+come_refusal (Err why) xs e = cc
+
+come_none : (reading : Result (Option Record) Refusal) (xs : List (Result Record Refusal)) → come reading xs ≡ [] → reading ≡ Ok None
+come_none (Ok (Some r)) xs e = absurd cc
+come_none (Ok None) xs e = refl
+come_none (Err why) xs e = absurd cc
+
+few : (reading : Result (Option Record) Refusal) (xs : List (Result Record Refusal)) → length (come reading xs) ≤ suc (length xs)
+few (Ok (Some r)) xs = omega arith
+few (Ok None) xs = omega arith
+few (Err why) xs = omega arith
 
 module _ (feed : List ℕ) where
   -- past the end nothing comes
@@ -88,3 +109,25 @@ module _ (feed : List ℕ) where
       → YieldsFirst (records_from feed) start item next
   comes_first start next {reading} {rest} e u t n =
       subst (λ x. YieldsFirst (records_from feed) start x next) (sym t) (comes start next reading rest e u n)
+
+  -- what came first says what was read at the place, and where the others come from
+  pub is_record : (start : ℕ) {it : Record} {others : List (Result Record Refusal)} → records_from feed start ≡ Ok it ∷ others
+      → (reading_of (drop start feed) start ≡ Ok (Some it)) × (others ≡ records_from feed (next_place feed start))
+  is_record start e = come_record (reading_of (drop start feed) start) (sym (records_next start) ∙ e)
+
+  pub is_refusal : (start : ℕ) {why : Refusal} {others : List (Result Record Refusal)} → records_from feed start ≡ Err why ∷ others → reading_of (drop start feed) start ≡ Err why
+  is_refusal start e = come_refusal (reading_of (drop start feed) start) (records_from feed (next_place feed start)) (sym (records_next start) ∙ e)
+
+  pub is_end : (start : ℕ) → records_from feed start ≡ [] → reading_of (drop start feed) start ≡ Ok None
+  is_end start e = come_none (reading_of (drop start feed) start) (records_from feed (next_place feed start)) (sym (records_next start) ∙ e)
+
+  few_first : (n start : ℕ) → length (come_first n feed start) ≤ n
+  unfolding come_first
+  few_first zero start = omega arith
+  few_first (suc n) start =
+      omega (arith, few (reading_of (drop start feed) start) (come_first n feed (next_place feed start)), few_first n (next_place feed start))
+
+  -- no more come than there are bytes
+  pub no_more : (start : ℕ) → length (records_from feed start) ≤ length feed
+  unfolding records_from
+  no_more start = omega (arith, few_first (length feed - start) start)
