@@ -3,7 +3,7 @@ use Rattle.std.proofs.Common.{◌≡◌, ℕ, ◌+◌, ◌-◌, List, ◌++◌, 
 use Rattle.std.proofs.KnownBytes.{Appends-trans}
 use Rattle.std.specs.Io.KnownBytes.{Appends}
 use Rattle.records.specs.declared.Record.{Record}
-use Rattle.records.specs.Feed.{reading_of, unread_of}
+use Rattle.records.specs.Feed.{reading_of}
 use Rattle.cards.specs.declared.Reply.{Reply}
 use Rattle.cards.specs.Runs.{Memory, Lent}
 use Rattle.book.proofs.Fronts.{take_min}
@@ -11,7 +11,7 @@ use Rattle.line.specs.declared.Reply.{Reply as Printed}
 use Rattle.line.specs.Lines.{line_of}
 use Rattle.service.specs.Serving.{TrunkValue, TrunkLimits, Served}
 use Rattle.service.specs.declared.ServiceError.{ServiceError}
-use Rattle.service.specs.Feeds.{Room, Lends, line_for, PrintsLine, ServesNext, Unreadable, ServesFirst, one_served, unreadable, PrintsFeed}
+use Rattle.service.specs.Feeds.{Room, Lends, line_for, PrintsLine, ServesNext, Unreadable, ServesFirst, unreadable, PrintsFeed}
 
 -- a line of as many of the numbers as there are
 pub line_cut : (number : ℕ) (p q : Printed) (n m i : ℕ) (xs : List ℕ) → p ≡ q → n ≡ m → i ≡ min n (length xs) →
@@ -25,13 +25,6 @@ pub next_served : {feed : List ℕ} {room : Room} {before after : Memory TrunkVa
     ServesNext feed room number start before (line_for (number + 1) reply l'.reply) after
 next_served {l = l} {l' = l'} {r = r} {reply = reply} is lends served =
     record { it = r; reply = reply; brought = l; left = l'; reads = is; lends = lends; serves = served; prints = refl }
-
--- one record more was served, and this part of the feed is left
-pub served_more : {feed : List ℕ} {room : Room} {m before after : Memory TrunkValue TrunkLimits} {number start : ℕ} {lines line : List ℕ} (rest : List ℕ) →
-    ServesFirst feed room m number start lines before → ServesNext feed room number start before line after → rest ≡ unread_of (drop start feed) →
-    ServesFirst feed room m (number + 1) (length feed - length rest) (lines ++ line) after
-served_more {feed} {room} {m} {before} {after} {number} {start} {lines} {line} rest first next left =
-    subst (λ (x : List ℕ). ServesFirst feed room m (number + 1) (length feed - length x) (lines ++ line) after) (sym left) (one_served first next)
 
 module _ {feed : List ℕ} {room : Room} {m between : Memory TrunkValue TrunkLimits} {number start : ℕ} (was printed is : Option (List ℕ)) (lines line : List ℕ)
     (first : ServesFirst feed room m number start lines between) (wrote : Appends was printed lines) where

@@ -8,7 +8,7 @@ ghost use Rattle.service.specs.Feeds.{PrintsLine, PrintsRecord, PrintsFeed, room
 
 use crate::{ServiceError, print, serve};
 use catalogue::Catalogue;
-use feed::{Record, read_record};
+use feed::{Record, read_records};
 use labels::Label;
 use line::{Reply as Printed, write_line};
 use measure::pair::{Trunk, TrunkLimit};
@@ -66,16 +66,12 @@ pub fn serve_feed<W: Write>(
     ensures links { SameLinks catalogue.old catalogue.new }
     ensures places { SamePlaces book.old book.new }
 {
-    let mut start = 0;
-    for turn in 0..feed.len() {
+    for (turn, reading) in read_records(feed).enumerate() {
         let number = turn + 1;
-        let (reading, rest) = read_record(feed, start);
         match reading {
-            Ok(Some(record)) => {
-                start = feed.len() - rest.len();
+            Ok(record) => {
                 serve_record(out, number, catalogue, book, labels, k, reply, record)?;
             }
-            Ok(None) => return Ok(()),
             Err(why) => return print_line(out, number, Printed::Refused(why), &[]),
         }
     }
