@@ -6,6 +6,9 @@
 #![tactic(auto)]
 
 ghost use Rattle.std.specs.Prelude.{◌≡◌, ℕ, ◌+◌, ◌-◌, ◌≤◌, length, drop, Some, slice_index};
+ghost use Rattle.std.specs.Iterator.{YieldsFirst, item_count};
+ghost use Rattle.feed.specs.Records.{unread};
+ghost use Rattle.records.specs.Records.{records_from};
 ghost use Rattle.records.specs.Feed.{body_length, refusal_of, number32, reading_of, unread_of, Ahead};
 ghost use Rattle.records.specs.RoundTrip.{WritesBack, ReadsPart};
 
@@ -241,4 +244,43 @@ pub fn read_record(input: &[u8], start: usize) -> (Reading, &[u8])
     ensures writes_back { WritesBack result.0 (drop start input.now) result.1.now }
 {
     read_head(part_from(input, start), start)
+}
+
+// The records of a feed in order: each begins where the one before it ends, and the refusal of what cannot be read is the last item.
+#[derive(Drop)]
+pub struct Records<'a> {
+    feed: &'a [u8],
+    start: usize,
+}
+
+impl<'a> Records<'a> {
+    // Reads the record at the start place, and goes on to where it ends.
+    fn read(&mut self) -> Option<Result<Record, Refusal>>
+        ensures { YieldsFirst unread self.old result self.new }
+    {
+        let (reading, rest) = read_record(self.feed, self.start);
+        self.start = self.feed.len() - rest.len();
+        reading.transpose()
+    }
+}
+
+impl<'a> Iterator for Records<'a> {
+    type Item = Result<Record, Refusal>;
+
+    ghost next_gives = { YieldsFirst unread };
+
+    ghost remaining = { item_count unread };
+
+    fn next(&mut self) -> Option<Result<Record, Refusal>> {
+        self.read()
+    }
+}
+
+// The records of the feed from its first byte on; there are no more of them than bytes.
+#[tactic(auto, using(records::proofs::Records::no_more))]
+pub fn read_records(feed: &[u8]) -> Records<'_>
+    ensures records { unread result ≡ records_from feed.now 0 }
+    ensures within { length (unread result) ≤ length feed.now }
+{
+    Records { feed, start: 0 }
 }

@@ -1,2 +1,3 @@
 pub mod Readings
 pub mod RoundTrip
+pub mod Records

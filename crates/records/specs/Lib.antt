@@ -1,3 +1,4 @@
 pub mod Feed
 pub mod Write
 pub mod RoundTrip
+pub mod Records

@@ -1,15 +1,15 @@
 -- What is printed of a feed, record by record.
-use Rattle.std.proofs.Common.{◌≡◌, ℕ, ◌+◌, ◌-◌, List, ◌++◌, length, drop, Some, Ok, Err, Option, Result, IsErrAnd, inl, inr, refl, ap, ◌∙◌, sym, subst}
+use Rattle.std.proofs.Common.{◌≡◌, ℕ, ◌+◌, List, ◌++◌, drop, Some, Ok, Err, Option, Result, IsErrAnd, inl, inr, refl, ap, ◌∙◌, sym, subst}
 use Rattle.std.proofs.KnownBytes.{Appends-trans}
 use Rattle.std.specs.Io.KnownBytes.{Appends}
 use Rattle.records.specs.declared.Record.{Record}
-use Rattle.records.specs.Feed.{reading_of, unread_of}
+use Rattle.records.specs.Feed.{reading_of}
 use Rattle.cards.specs.Runs.{Reply, Memory}
 use Rattle.service.specs.declared.serving.Service.{Service}
 use Rattle.service.specs.Serving.{TrunkValue, TrunkLimits, Served}
 use Rattle.service.specs.Services.{Room, memory_in, lent_by, room_in, SameService}
 use Rattle.service.specs.declared.ServiceError.{ServiceError}
-use Rattle.service.specs.Feeds.{line_for, PrintsLine, ServesNext, Unreadable, ServesFirst, one_served, unreadable, PrintsFeed}
+use Rattle.service.specs.Feeds.{line_for, PrintsLine, ServesNext, Unreadable, ServesFirst, unreadable, PrintsFeed}
 
 -- a service is the same after two steps
 pub same_again : {s s' s'' : Service} → SameService s s' → SameService s' s'' → SameService s s''
@@ -28,13 +28,6 @@ pub next_served : {feed : List ℕ} {number start : ℕ} {opened before : Servic
 next_served {feed} {number} {start} {opened} {before} {r} {reply} after is same served =
     subst (λ (room : Room). ServesNext feed room number start (memory_in before) (line_for (number + 1) reply after.reply.now) (memory_in after)) same.room
     record { it = r; reply = reply; brought = lent_by before; left = lent_by after; reads = is; lends = record { labels = refl; numbers = refl }; serves = served; prints = refl }
-
--- one record more was served, and this part of the feed is left
-pub served_more : {feed : List ℕ} {room : Room} {m before after : Memory TrunkValue TrunkLimits} {number start : ℕ} {lines line : List ℕ} (rest : List ℕ) →
-    ServesFirst feed room m number start lines before → ServesNext feed room number start before line after → rest ≡ unread_of (drop start feed) →
-    ServesFirst feed room m (number + 1) (length feed - length rest) (lines ++ line) after
-served_more {feed} {room} {m} {before} {after} {number} {start} {lines} {line} rest first next left =
-    subst (λ (x : List ℕ). ServesFirst feed room m (number + 1) (length feed - length x) (lines ++ line) after) (sym left) (one_served first next)
 
 module _ {feed : List ℕ} {room : Room} {m between : Memory TrunkValue TrunkLimits} {number start : ℕ} (was printed is : Option (List ℕ)) (lines line : List ℕ)
     (first : ServesFirst feed room m number start lines between) (wrote : Appends was printed lines) where

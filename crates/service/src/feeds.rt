@@ -6,7 +6,7 @@ ghost use Rattle.service.specs.Services.{memory_in, lent_by, room_in, SameServic
 ghost use Rattle.service.specs.Feeds.{PrintsLine, PrintsRecord, PrintsFeed};
 
 use crate::{Service, ServiceError, print};
-use feed::{Record, read_record};
+use feed::{Record, read_records};
 use line::{Reply as Printed, write_line};
 use std::io::Write;
 
@@ -48,16 +48,10 @@ impl Service<'_> {
         ensures printed { PrintsFeed feed.now (room_in self.old) (memory_in self.old) (W.Write.contents out.old) (W.Write.contents out.new) (memory_in self.new) result }
         ensures same { SameService self.old self.new }
     {
-        let mut start = 0;
-        for turn in 0..feed.len() {
+        for (turn, reading) in read_records(feed).enumerate() {
             let number = turn + 1;
-            let (reading, rest) = read_record(feed, start);
             match reading {
-                Ok(Some(record)) => {
-                    start = feed.len() - rest.len();
-                    self.serve_record(out, number, record)?;
-                }
-                Ok(None) => return Ok(()),
+                Ok(record) => self.serve_record(out, number, record)?,
                 Err(why) => return print_line(out, number, Printed::Refused(why), &[]),
             }
         }

@@ -138,10 +138,12 @@ pub fn print(reply: Reply<Trunk>) -> (Printed, usize)
 {
     match reply {
         Ok(Answer::Counted(count)) => (Printed::Counted(count), 0),
-        Ok(Answer::Held {
-            mark,
-            answer: Some(route),
-        }) => {
+        Ok(
+            Answer::Held {
+                mark,
+                answer: Some(route),
+            },
+        ) => {
             let Route { legs, value, ratio } = route;
             (Printed::Route { mark, ratio, value }, legs)
         }
