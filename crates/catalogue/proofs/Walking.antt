@@ -1,16 +1,13 @@
 -- Walks, leg by leg.
-use Rattle.std.proofs.Common.{◌≡◌, ℕ, ◌+◌, ◌<◌, ◌≤◌, List, ◌∷◌, length, get_or, drop, Some, Option, sym, refl, ◌∙◌, subst, add-one, drop-cons}
+use Rattle.std.proofs.Common.{◌≡◌, ℕ, ◌+◌, ◌<◌, ◌≤◌, List, ◌∷◌, length, get_or, drop, Option, sym, refl, ◌∙◌, subst, add-one, drop-cons}
 use Rattle.std.proofs.lemmas.List.{drop_all}
 use Rattle.measure.specs.Kind.{Kind}
 use Rattle.catalogue.specs.declared.Link.{Link}
 use Rattle.catalogue.specs.Walks.{Holds, extend, Goes}
 
-some_same : {A : Type 0} {a b : A} → Some a ≡ Some b → a ≡ b
-some_same e = cc
-
 -- a place holds one link
 pub holds_one : {V : Type 0} (links : List (Option (Link V))) (p s t s' t' : ℕ) (c c' : V) → Holds links p s t c → Holds links p s' t' c' → ◌≡◌ {A = Link V} (record { start = s; end = t; value = c }) (record { start = s'; end = t'; value = c' })
-holds_one links p s t s' t' c c' h h' = some_same (sym h ∙ h')
+holds_one links p s t s' t' c c' h h' = cc (sym h ∙ h')
 
 module _ {V L : Type 0} (K : Kind V L) (links : List (Option (Link V))) where
   -- after some legs, the walk goes on from there just where it goes on from the source

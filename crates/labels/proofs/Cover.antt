@@ -1,5 +1,5 @@
 -- Every walk within the limit is covered, so the first queued value at the destination is best.
-use Rattle.std.proofs.Common.{true, ◌≡◌, ℕ, false, ◌⊎◌, List, [], ◌∷◌, ◌++◌, sym, refl, ap, subst, inl, inr, ⊎_elim}
+use Rattle.std.proofs.Common.{true, ◌≡◌, ℕ, false, ◌⊎◌, List, [], ◌∷◌, ◌++◌, refl, ap, subst, inl, inr, ⊎_elim}
 use Rattle.measure.specs.Kind.{Kind, Made, made_empty}
 use Rattle.measure.specs.Laws.{Laws}
 use Rattle.measure.specs.Ranks.{Fit, ranks}
@@ -22,7 +22,7 @@ module _ {V L : Type 0} (K : Kind V L) (l : L) (Lead : ℕ → ℕ → ℕ → V
 
 module _ {V L : Type 0} {K : Kind V L} (laws : Laws K) (Lead : ℕ → ℕ → ℕ → V → Type 0) (links : (p s t : ℕ) (c : V) → Lead p s t c → Made K c) where
   pub goes_made : (ps : List ℕ) (s t : ℕ) (v w : V) → Made K v → Goes K Lead s v ps t w → Made K w
-  goes_made [] s t v w mv g = subst (λ x. Made K x) g.1 mv
+  goes_made [] s t v w mv g = rw (g.1) at mv
   goes_made (p ∷ ps) s t v w mv g = goes_made ps g.0 t (extend K v g.1) w (extend_made K v g.1 mv (links p s g.0 g.1 g.2)) g.3
 
   pub goes_dom : (ps : List ℕ) (s t : ℕ) (v w : V) → Made K v → Goes K Lead s v ps t w → K.dominates v w ≡ true
@@ -35,7 +35,7 @@ module _ {V L : Type 0} {K : Kind V L} (laws : Laws K) (Lead : ℕ → ℕ → �
   -- one link more at the end
   pub goes_more : (ps : List ℕ) (s t u p : ℕ) (v w c : V) → Goes K Lead s v ps t w → Lead p t u c → Goes K Lead s v (ps ++ (p ∷ [])) u (extend K w c)
   goes_more [] s t u p v w c g lead =
-      (u, c, subst (λ x. Lead p x u c) (sym g.0) lead, (refl, ap (λ x. extend K x c) g.1))
+      (u, c, rw (g.0) lead, (refl, ap (λ x. extend K x c) g.1))
   goes_more (q ∷ ps) s t u p v w c g lead = (g.0, g.1, g.2, goes_more ps g.0 t u p (extend K v g.1) w c g.3 lead)
 
 module _ {V L : Type 0} {K : Kind V L} (laws : Laws K) (l : L) (adm : K.limit_admitted l ≡ true) (Lead : ℕ → ℕ → ℕ → V → Type 0) (links : (p s t : ℕ) (c : V) → Lead p s t c → Made K c) (src : ℕ) (Queued Settled : ℕ → V → Type 0) (covers : Covers K l Lead src Queued Settled) where
@@ -66,7 +66,7 @@ module _ {V L : Type 0} {K : Kind V L} (laws : Laws K) (l : L) (adm : K.limit_ad
       inr (x, q, queued, rank_trans laws l adm q v (extend K v c) (covers.queued_fit x q queued) fv f r (rank_extend laws l adm v c mv mc f))
 
   reached_goes : (ps : List ℕ) (s t : ℕ) (v w : V) → Made K v → Goes K Lead s v ps t w → K.within w l ≡ true → Reached s v → Reached t w
-  reached_goes [] s t v w mv g fw r = subst (λ x. Reached x w) g.0 (subst (λ x. Reached s x) g.1 r)
+  reached_goes [] s t v w mv g fw r = rw (g.0, g.1) at r
   reached_goes (p ∷ ps) s t v w mv g fw r =
       let mj = extend_made K v g.1 mv (links p s g.0 g.1 g.2) in
       let mw = goes_made laws Lead links ps g.0 t (extend K v g.1) w mj g.3 in

@@ -12,9 +12,9 @@ use Rattle.labels.specs.declared.Label.{Label}
 use Rattle.measure.specs.Kind.{Kind}
 use Rattle.measure.specs.Laws.{Laws}
 use Rattle.measure.specs.Ranks.{Fit, ranks}
-use Rattle.labels.specs.Labels.{is_held, is_queued, is_settled, is_free, In, Held, covers, Waits, Fits, Leader, FirstBelow, ahead, table, blank, yields, freed, cleared, Clears, Adds, Frees}
+use Rattle.labels.specs.Labels.{is_held, is_queued, is_free, In, Held, covers, Waits, Fits, Leader, FirstBelow, ahead, table, blank, yields, freed, cleared, Clears, Adds, Frees}
 use Rattle.measure.proofs.Ranking.{rank_trans, rank_self, rank_total}
-use Rattle.labels.proofs.Chains.{waits_held, done_held, not_both}
+use Rattle.labels.proofs.Chains.{at_or, waits_held, done_held, not_both}
 
 module _ {V L : Type 0} {K : Kind V L} (laws : Laws K) (l : L) (adm : K.limit_admitted l ≡ true) (A : ℕ → Label V) (fits : Fits K l A) (i : ℕ) where
   -- the label at i leads: it ranks before the leader, if there is one
@@ -22,7 +22,7 @@ module _ {V L : Type 0} {K : Kind V L} (laws : Laws K) (l : L) (adm : K.limit_ad
   leader_new r best leads = record {
     low = omega arith;
     waits = waits;
-    first = λ q lt w. ⊎_elim (λ e. subst (λ y. ranks K l (A y).value (A i).value ≡ false) (sym e) (rank_self laws l adm (A i).value fit)) (λ ne. below r best (and_parts _ _ leads).1 q (omega arith) w) (cases_eq q i);
+    first = λ q lt w. at_or (λ y. ranks K l (A y).value (A i).value ≡ false) i (rank_self laws l adm (A i).value fit) q (λ ne. below r best (and_parts _ _ leads).1 q (omega arith) w);
   }
     where
       waits : Waits A i
@@ -35,18 +35,18 @@ module _ {V L : Type 0} {K : Kind V L} (laws : Laws K) (l : L) (adm : K.limit_ad
       below None none first q lt w = absurd (none q lt w)
       below (Some b) lead first q lt w =
           let fb = fits b (waits_held _ lead.waits) in
-          let ib : ranks K l (A b).value (A i).value ≡ false = ⊎_elim (λ e. e) (λ e. absurd (both_ways _ e first)) (rank_total laws l adm (A i).value (A b).value fit fb) in
+          let ib = ⊎_elim (λ e. e) (λ e. absurd (both_ways _ e first)) (rank_total laws l adm (A i).value (A b).value fit fb) in
           rank_trans laws l adm (A i).value (A b).value (A q).value fit fb (fits q (waits_held _ w)) ib (lead.first q lt w)
 
   -- it does not lead
   pub leader_stays : (r : Option ℕ) → FirstBelow K l A i r → (is_queued (A i).state && ahead K l A r (A i).value) ≡ false → FirstBelow K l A (i + 1) r
   leader_stays None none stays = λ q lt w.
-      ⊎_elim (λ e. both_ways _ stays (and_from _ _ (subst (Waits A) e w) refl)) (λ ne. none q (omega arith) w) (cases_eq q i)
+      ⊎_elim (λ e. both_ways _ stays (and_from _ _ (rw e at w) refl)) (λ ne. none q (omega arith) w) (cases_eq q i)
   leader_stays (Some b) lead stays = record {
     low = omega (arith, lead.low);
     waits = lead.waits;
     first = λ q lt w. ⊎_elim
-        (λ e. subst (λ y. ranks K l (A y).value (A b).value ≡ false) (sym e) (⊎_elim (λ idle. absurd (both_ways _ idle (subst (Waits A) e w))) (λ behind. behind) (and_cases _ _ stays)))
+        (λ e. rw e (⊎_elim (λ idle. absurd (both_ways _ idle (rw e at w))) (λ behind. behind) (and_cases _ _ stays)))
         (λ ne. lead.first q (omega arith) w)
         (cases_eq q i);
   }
@@ -100,7 +100,7 @@ module _ {V L : Type 0} (K : Kind V L) (A : ℕ → Label V) (ys : List (Label V
   pub clears_full : ((p : ℕ) → start ≤ p → p < end → Held B p) → (p : ℕ) → start ≤ p → p < end → Held A p × (Waits A p → K.dominates y.value (A p).value ≡ false)
   clears_full full p a b =
       ⊎_elim
-      (λ k. (subst (λ z. is_held z.state ≡ true) k.0 (full p a b), yields_not K y.value (A p) (k.1 a b)))
+      (λ k. (rw (k.0) at (full p a b), yields_not K y.value (A p) (k.1 a b)))
       (λ f. absurd (both_ways _ f.3 (full p a b)))
       (clears_cases p)
 
@@ -116,11 +116,11 @@ module _ {V L : Type 0} (K : Kind V L) (A : ℕ → Label V) (ys : List (Label V
       inside = (sx, xe);
       new = table_same K ys x y in_x;
       free = λ d. ⊎_elim
-          (λ k. both_ways _ free (subst (λ z. is_held z.state ≡ true) (sym k.0) (done_held _ d)))
+          (λ k. both_ways _ free (rw (k.0) (done_held _ d)))
           (λ f. not_both _ (and_parts _ _ f.2).0 d)
           (clears_cases x);
       gone = λ held. ⊎_elim
-          (λ k. absurd (both_ways _ free (subst (λ z. is_held z.state ≡ true) (sym k.0) held)))
+          (λ k. absurd (both_ways _ free (rw (k.0) held)))
           (λ f. (and_parts _ _ f.2).1)
           (clears_cases x);
       other = λ p ne. let e = table_other K ys x y p ne in
@@ -129,10 +129,9 @@ module _ {V L : Type 0} (K : Kind V L) (A : ℕ → Label V) (ys : List (Label V
           (λ f. let parts = and_parts _ _ f.2 in inr (parts.1, (f.0, f.1), parts.0, ap (λ z. is_held z.state) e ∙ f.3))
           (clears_cases p);
       left = λ p ne at w. let e = table_other K ys x y p ne in
-          let wb = subst (λ z. is_queued z.state ≡ true) e w in
+          let wb = rw e at w in
           ⊎_elim
-          (λ k. let wa = subst (λ z. is_queued z.state ≡ true) k.0 wb in
-          subst (λ z. K.dominates y.value z.value ≡ false) (sym (e ∙ k.0)) (yields_not K y.value (A p) (k.1 at.0 at.1) wa))
+          (λ k. rw (e, k.0) (yields_not K y.value (A p) (k.1 at.0 at.1) (rw (k.0) at wb)))
           (λ f. absurd (both_ways _ f.3 (waits_held _ wb)))
           (clears_cases p);
     }
@@ -222,26 +221,20 @@ module _ {V L : Type 0} (K : Kind V L) (xs : List (Label V)) (k t s : ℕ) (firs
         record {
           inside = place;
           new = written_of (s + x) place ∙ ap (table K zs) (omega arith) ∙ adds.new;
-          free = λ d. adds.free (subst (λ z. is_settled z.state ≡ true) (sym old) d);
-          gone = λ held. subst (λ z. K.dominates y.value z.value ≡ true) old (adds.gone (subst (λ z. is_held z.state ≡ true) (sym old) held));
+          free = λ d. adds.free (rw old d);
+          gone = λ held. rw old at (adds.gone (rw old held));
           other = λ p ne. ⊎_elim
               (λ low. inl (written_off p (λ at. absurd (omega (arith, at.0)))))
               (λ ge. ⊎_elim
               (λ lt. ⊎_elim
               (λ e. inl (written_of p (ge, lt) ∙ e ∙ here_of p (ge, lt)))
-              (λ f. inr (
-                subst (λ z. K.dominates y.value z.value ≡ true) (here_of p (ge, lt)) f.0,
-                (ge, lt),
-                subst (λ z. is_queued z.state ≡ true) (here_of p (ge, lt)) f.2,
-                ap (λ z. is_held z.state) (written_of p (ge, lt)) ∙ f.3,
-              ))
+              (λ f. inr (rw (here_of p (ge, lt)) at f.0, (ge, lt), rw (here_of p (ge, lt)) at f.2, rw (written_of p (ge, lt)) f.3))
               (adds.other (p - s) (λ e. ne (omega arith))))
               (λ past. inl (written_off p (λ at. absurd (omega (arith, at.1)))))
               (cases_lt p (t * k + k)))
               (cases_lt p (t * k));
           left = λ p ne at w.
-              subst (λ z. K.dominates y.value z.value ≡ false) (sym (written_of p at))
-              (adds.left (p - s) (λ e. ne (omega (arith, at.0))) (omega arith, omega (arith, here_long, at.0, at.1)) (subst (λ z. is_queued z.state ≡ true) (written_of p at) w));
+              rw (written_of p at) (adds.left (p - s) (λ e. ne (omega (arith, at.0))) (omega arith, omega (arith, here_long, at.0, at.1)) (rw (written_of p at) at w));
         }
 
   pub put_here : (y : Label V) (zs : List (Label V)) (x : ℕ) → position is_free (swept K here y) ≡ Some x → zs ≡ set (swept K here y) x y → Adds K (table K xs) (table K (put_mid s (s + k - s) xs zs)) (t * k) (t * k + k) (s + x) y

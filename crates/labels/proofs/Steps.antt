@@ -9,7 +9,7 @@ use Rattle.measure.specs.Ranks.{Fit, ranks}
 use Rattle.catalogue.specs.Walks.{extend, Walk}
 use Rattle.catalogue.specs.Routes.{First, Outside, Crowded}
 use Rattle.labels.proofs.Extending.{extend_made, extend_over, rank_extend}
-use Rattle.labels.specs.Labels.{is_held, is_queued, is_settled, In, Held, Waits, Done, Off, Chain, path, Has, Kept, Spread, SpreadAll, Last, Settles, Adds}
+use Rattle.labels.specs.Labels.{is_queued, is_settled, In, Held, Waits, Done, Off, Chain, path, Has, Kept, Spread, SpreadAll, Last, Settles, Adds, Starts}
 use Rattle.labels.proofs.Cover.{Covered, Covers, goes_more, first_best, none_left}
 use Rattle.measure.proofs.Ranking.{rank_dom, rank_trans, rank_antisym}
 use Rattle.labels.proofs.Chains.{one_site, at_or, done_held, waits_held, held_cases, not_both, Same, same_from, chain_keep, chain_walk, chain_off}
@@ -267,7 +267,7 @@ skip_spread K l Lead k src dst A h i spread here p s j t c d at lead low fits =
     (cases_eq p h)
 
 -- The end of the search, where what every settled label reaches is held.
-module _ {V L : Type 0} {K : Kind V L} (laws : Laws K) (l : L) (adm : K.limit_admitted l ≡ true) (Lead : ℕ → ℕ → ℕ → V → Type 0) (links : (p s t : ℕ) (c : V) → Lead p s t c → Made K c) (k src dst : ℕ) (A : ℕ → Label V) (kept : Kept K l Lead k src dst A) (all : SpreadAll K l Lead k src dst A) where
+module _ {V L : Type 0} {K : Kind V L} (laws : Laws K) {l : L} (adm : K.limit_admitted l ≡ true) {Lead : ℕ → ℕ → ℕ → V → Type 0} (links : (p s t : ℕ) (c : V) → Lead p s t c → Made K c) {k src dst : ℕ} {A : ℕ → Label V} (kept : Kept K l Lead k src dst A) (all : SpreadAll K l Lead k src dst A) where
   abbrev At : (ℕ → Type 0) → ℕ → V → Type 0
   At P s v = (p : ℕ) × In k s p × P p × ((A p).value ≡ v)
 
@@ -280,9 +280,7 @@ module _ {V L : Type 0} {K : Kind V L} (laws : Laws K) (l : L) (adm : K.limit_ad
     settled_fit = λ s v q. subst (Fit K l) q.3 (kept.fit q.0 (done_held _ q.2));
     start = table_has src K.empty kept.start;
     spread = λ s h q p t c lead fits.
-        table_has t (extend K h c)
-        (subst (λ y. Has K l Lead k src dst A t (extend K y c)) q.3
-        (all q.0 s p t c q.2 q.1 lead (subst (λ y. K.within (extend K y c) l ≡ true) (sym q.3) fits)));
+        table_has t (extend K h c) (subst (λ y. Has K l Lead k src dst A t (extend K y c)) q.3 (all q.0 s p t c q.2 q.1 lead (rw (q.3) fits)));
   }
 
   none_done : (v : V) → At (Done A) dst v → ⊥
@@ -299,23 +297,26 @@ module _ {V L : Type 0} {K : Kind V L} (laws : Laws K) (l : L) (adm : K.limit_ad
   nothing_left empty = none_left laws l adm Lead links src (At (Waits A)) (At (Done A)) table_covers dst none_done (λ s v q. empty q.0 q.2)
 
 -- The first table: one label is held, at the source, with the value empty.
-module _ {V L : Type 0} {K : Kind V L} (laws : Laws K) (l : L) (adm : K.limit_admitted l ≡ true) (Lead : ℕ → ℕ → ℕ → V → Type 0) (k src dst : ℕ) (A : ℕ → Label V) (x : ℕ) (at : In k src x) (here : A x ≡ record { state = Queued; value = K.empty; previous = x; link = 0 }) (other : (p : ℕ) → (p ≡ x → ⊥) → is_held (A p).state ≡ false) where
+module _ {V L : Type 0} {K : Kind V L} (laws : Laws K) (l : L) (adm : K.limit_admitted l ≡ true) (Lead : ℕ → ℕ → ℕ → V → Type 0) (k src dst : ℕ) {A : ℕ → Label V} {x : ℕ} (at : In k src x) (starts : Starts K A x) where
   only_x : (p : ℕ) → Held A p → p ≡ x
-  only_x p held = ⊎_elim (λ e. e) (λ ne. absurd (both_ways _ (other p ne) held)) (cases_eq p x)
+  only_x p held = ⊎_elim (λ e. e) (λ ne. absurd (both_ways _ (starts.other p ne) held)) (cases_eq p x)
+
+  waits_x : Waits A x
+  waits_x = ap (λ y. is_queued y.state) starts.here
 
   no_done : (p : ℕ) → Done A p → ⊥
-  no_done p d = not_both _ (ap (λ y. is_queued y.state) here) (subst (Done A) (only_x p (done_held _ d)) d)
+  no_done p d = not_both _ waits_x (subst (Done A) (only_x p (done_held _ d)) d)
 
   empty_at : (A x).value ≡ K.empty
-  empty_at = ap (λ y. y.value) here
+  empty_at = ap (λ y. y.value) starts.here
 
   pub start_kept : Kept K l Lead k src dst A
   start_kept = record {
-    fit = λ p held. subst (λ y. Fit K l (A y).value) (sym (only_x p held)) (subst (Fit K l) (sym empty_at) (record { made = made_empty; within = laws.empty_within l adm }));
+    fit = λ p held. rw (only_x p held) (rw empty_at (record { made = made_empty; within = laws.empty_within l adm }));
     ordered = λ p q d w. absurd (no_done p d);
     apart = λ s p q sp sq hp hq ne. absurd (ne (only_x p hp ∙ sym (only_x q hq)));
-    chained = λ p held. ([], subst (λ y. Chain K Lead k src A [] y) (sym (only_x p held)) (at, empty_at, ap (λ y. y.previous) here));
-    start = (x, at, waits_held _ (ap (λ y. is_queued y.state) here), subst (λ y. K.dominates y K.empty ≡ true) (sym empty_at) (laws.dom_refl K.empty (made_empty)));
+    chained = λ p held. ([], rw (only_x p held) (at, empty_at, ap (λ y. y.previous) starts.here));
+    start = (x, at, waits_held _ waits_x, rw empty_at (laws.dom_refl K.empty made_empty));
     ahead = λ p ap d. no_done p d;
   }
 

@@ -3,9 +3,8 @@ use Rattle.std.proofs.Common.{◌≡◌, ℕ, zero, suc, ◌+◌, ◌*◌, ◌/�
 use Rattle.std.specs.List.{list_any}
 use borrow.Rule.Slice.PartMut.{put_mid}
 use Rattle.labels.proofs.Scans.{table_same, table_other, frees_map, swept, dominated_here, fresh_here, full_here, put_here, same_here}
-use Rattle.std.proofs.lemmas.Bool.{both_ways, cases_eq, cases_Bool, and_parts, and_cases, false≢true}
-use Rattle.labels.specs.declared.State.{State}
-use Rattle.labels.specs.declared.State.TheVariants.{Free, Queued, Settled}
+use Rattle.std.proofs.lemmas.Bool.{both_ways, false_from_ne_true, and_parts, and_cases, false≢true}
+use Rattle.labels.specs.declared.State.TheVariants.{Queued}
 use Rattle.labels.specs.declared.Label.{Label}
 use Rattle.catalogue.specs.declared.Link.{Link}
 use Rattle.measure.specs.Kind.{Kind, Made}
@@ -15,32 +14,16 @@ use Rattle.catalogue.specs.Walks.{Holds, extend}
 use Rattle.catalogue.specs.Routes.{Sound, Outside, Crowded}
 use Rattle.labels.proofs.Finding.{links_made, leads_one}
 use Rattle.labels.specs.Labels.{is_held, is_queued, is_settled, In, Held, Waits, Done, Has, Settles, Adds, Steady, Offered, OffersNone, Opens, Rests, is_free, covers, Leader, table, freed, Wins, Starts}
-use Rattle.labels.proofs.Chains.{one_site, waits_held, not_both}
+use Rattle.labels.proofs.Chains.{one_site, at_or, done_held, waits_held, not_both}
 use Rattle.labels.proofs.Steps.{skip_spread, crowded, added, settle_kept, settle_last, settle_spread, settle_done, settle_on, found_first, nothing_left, start_kept, start_spread}
 
-free_not_done : (x : State) → is_held x ≡ false → is_settled x ≡ false
-free_not_done Free e = refl
-free_not_done Queued e = refl
-free_not_done Settled e = e
-
-waits_not_done : (x : State) → is_queued x ≡ true → is_settled x ≡ false
-waits_not_done Free e = refl
-waits_not_done Queued e = refl
-waits_not_done Settled e = sym e
-
-not_done : (b : Bool) → (b ≡ true → ⊥) → b ≡ false
-not_done true h = absurd (h refl)
-not_done false h = refl
-
-pub adds_steady : {V L : Type 0} (K : Kind V L) (A C : ℕ → Label V) (start end x : ℕ) (y : Label V) → is_queued y.state ≡ true → Adds K A C start end x y → Steady A C
-adds_steady K A C start end x y w adds p =
-    ⊎_elim
-    (λ e. subst (λ q. is_settled (C q).state ≡ is_settled (A q).state) (sym e) (waits_not_done (C x).state (subst (λ z. is_queued z.state ≡ true) (sym adds.new) w) ∙ sym (not_done _ adds.free)))
+pub adds_steady : {V L : Type 0} {K : Kind V L} {A C : ℕ → Label V} {start end x : ℕ} {y : Label V} → is_queued y.state ≡ true → Adds K A C start end x y → Steady A C
+adds_steady {A = A} {C = C} {x = x} w adds p =
+    at_or (λ q. is_settled (C q).state ≡ is_settled (A q).state) x (false_from_ne_true _ (not_both _ (rw adds.new w)) ∙ sym (false_from_ne_true _ adds.free)) p
     (λ ne. ⊎_elim
     (λ e. ap (λ z. is_settled z.state) e)
-    (λ g. free_not_done (C p).state g.3 ∙ sym (waits_not_done (A p).state g.2))
+    (λ g. false_from_ne_true _ (λ d. both_ways _ g.3 (done_held _ d)) ∙ sym (false_from_ne_true _ (not_both _ g.2)))
     (adds.other p ne))
-    (cases_eq p x)
 
 module _ {V L : Type 0} {K : Kind V L} (laws : Laws K) {l : L} (adm : K.limit_admitted l ≡ true) {sites : ℕ} {cat : List (Option (Link V))} (sound : Sound K sites cat) where
   links : (p s t : ℕ) (c : V) → Holds cat p s t c → Made K c
@@ -88,7 +71,7 @@ module _ {V L : Type 0} {K : Kind V L} (laws : Laws K) {l : L} (adm : K.limit_ad
         turn_adds C x adds =
             let made : Adds K A C (t * k) (t * k + k) x (record { state = Queued; value = j; previous = h; link = i }) = subst (λ y. Adds K A C (t * k) (t * k + k) x (record { state = Queued; value = y; previous = h; link = i })) offer.joined adds in
             let (kept, done, last, spread) = added laws adm links opens.kept h i site t offer.value opens.done opens.last opens.at offer.leads fits fresh_j C x made (leads_one cat) opens.spread in
-            (record { kept = kept; done = done; last = last; at = opens.at; spread = spread }, adds_steady K A C (t * k) (t * k + k) x _ refl adds)
+            (record { kept = kept; done = done; last = last; at = opens.at; spread = spread }, adds_steady refl adds)
 
   -- the labels of the site that the link at i leads to, from s on, where the labels are xs
   module _ (xs : List (Label V)) {k src dst : ℕ} {h site i : ℕ} (opens : Opens K l cat k src dst (table K xs) h site i) {t : ℕ} {n : V} (offer : Offered K l cat (table K xs) h site i t n) (s : ℕ) (first : s ≡ t * k) (room : s + k ≤ length xs) where
@@ -128,11 +111,11 @@ module _ {V L : Type 0} {K : Kind V L} (laws : Laws K) {l : L} (adm : K.limit_ad
       rests = rests;
       at = at;
       waits = waits;
-      first = found_first laws l adm (Holds cat) links k src dst A rests.kept rests.spread h waits first;
+      first = found_first laws adm links rests.kept rests.spread h waits first;
     }
 
     pub turn_apart : ((q : ℕ) → Waits A q → ⊥) → Outside K l (Holds cat) src dst
-    turn_apart none = nothing_left laws l adm (Holds cat) links k src dst A rests.kept rests.spread none
+    turn_apart none = nothing_left laws adm links rests.kept rests.spread none
 
 -- the site of a place
 pub place_site : (k p : ℕ) → 0 < k → In k (p / k) p
@@ -152,17 +135,14 @@ unsettled (x ∷ xs) = weight (is_settled x.state) + unsettled xs
 
 weight_le : (a b : Bool) → (a ≡ true → b ≡ true) → weight b ≤ weight a
 unfolding weight
-weight_le true true h = omega arith
-weight_le true false h = absurd (false≢true (h refl))
+weight_le true b h = rw (h refl) (omega arith)
 weight_le false true h = omega arith
 weight_le false false h = omega arith
 
 weight_lt : (a b : Bool) → (a ≡ true → ⊥) → b ≡ true → weight b < weight a
 unfolding weight
-weight_lt true true h e = absurd (h refl)
-weight_lt true false h e = absurd (h refl)
-weight_lt false true h e = omega arith
-weight_lt false false h e = absurd (false≢true e)
+weight_lt true b h e = absurd (h refl)
+weight_lt false b h e = rw e (omega arith)
 
 module _ {V L : Type 0} (K : Kind V L) where
   unsettled_le : (xs ys : List (Label V)) → length xs ≡ length ys → ((p : ℕ) → Done (table K xs) p → Done (table K ys) p) → unsettled ys ≤ unsettled xs
@@ -213,10 +193,10 @@ module _ {V L : Type 0} (K : Kind V L) where
   }
     where
       free : (p : ℕ) → is_held (table K (map freed xs) p).state ≡ false
-      free p = ⊎_elim (λ h. absurd (both_ways _ (frees_map K xs p (held_inside (map freed xs) p h)) h)) (λ e. e) (cases_Bool (is_held (table K (map freed xs) p).state))
+      free p = false_from_ne_true _ (λ h. both_ways _ (frees_map K xs p (held_inside (map freed xs) p h)) h)
 
-pub starts_rests : {V L : Type 0} {K : Kind V L} (laws : Laws K) (l : L) (adm : K.limit_admitted l ≡ true) (cat : List (Option (Link V))) (k src dst : ℕ) (A : ℕ → Label V) (x : ℕ) → In k src x → Starts K A x → Rests K l cat k src dst A
-starts_rests laws l adm cat k src dst A x at starts = record {
-  kept = start_kept laws l adm (Holds cat) k src dst A x at starts.here starts.other;
-  spread = start_spread laws l adm (Holds cat) k src dst A x at starts.here starts.other;
+pub starts_rests : {V L : Type 0} {K : Kind V L} (laws : Laws K) (l : L) (adm : K.limit_admitted l ≡ true) (cat : List (Option (Link V))) (k src dst : ℕ) {A : ℕ → Label V} {x : ℕ} → In k src x → Starts K A x → Rests K l cat k src dst A
+starts_rests laws l adm cat k src dst at starts = record {
+  kept = start_kept laws l adm (Holds cat) k src dst at starts;
+  spread = start_spread laws l adm (Holds cat) k src dst at starts;
 }

@@ -1,5 +1,5 @@
 -- What the check of a search says.
-use Rattle.std.proofs.Common.{◌≡◌, ℕ, ◌≤◌, Bool, true, false, cond, List, length, Some, None, Ok, Err, Option, Result, sym, refl, ap, subst, arith}
+use Rattle.std.proofs.Common.{◌≡◌, ℕ, Bool, true, false, cond, List, length, Some, None, Ok, Err, Option, Result, sym, refl, subst}
 use Rattle.std.proofs.lemmas.Bool.{or_parts, leb-false, ltb-false, eqb-true, not-false}
 use Rattle.measure.specs.Kind.{Kind}
 use Rattle.report.specs.declared.Refusal.{Refusal}
@@ -13,7 +13,7 @@ use Rattle.routing.specs.Finds.{Admits}
 use Rattle.routing.specs.Searching.{route_causes, Answered, Searched}
 
 cond_none : {A : Type 0} (b : Bool) (x : A) (t : Option A) → cond b (Some x) t ≡ None → (b ≡ false) × (t ≡ None)
-cond_none true x t e = let z : ◌≡◌ {A = ℕ} 0 1 = cc in absurd (omega arith)
+cond_none true x t e = cc
 cond_none false x t e = (refl, e)
 
 pub admits : {V L : Type 0} (K : Kind V L) (sites room k : ℕ) (ask : Ask L) (row : ℕ) → topmost (route_causes K sites room k ask row) ≡ None → Admits K sites room k ask row
@@ -29,7 +29,7 @@ admits K sites room k ask row e =
       source = leb-false _ _ ends.0;
       limit = not-false _ limited.0;
       size = eqb-true _ _ (not-false _ sizes.0);
-      some = let one : 1 ≤ k = ltb-false k 1 ks.0 in omega arith;
+      some = ltb-false k 1 ks.0;
       few = ltb-false 64 k ks.1;
       fits = ltb-false _ _ fitting.0;
     }
@@ -46,8 +46,8 @@ module _ {V L : Type 0} (K : Kind V L) (sites : ℕ) (links : List (Option (Link
   ]
 
   refused_so : (why : Refusal) (t : Option Refusal) → ◌≡◌ {A = Result (Unit {0}) Refusal} (Err why) (unless t (Ok tt)) → Outcome labels row (Err why) t
-  refused_so why (Some other) e = (let z : why ≡ other = cc in ap Err z, refl, refl)
-  refused_so why None e = let z : ◌≡◌ {A = ℕ} 0 1 = cc in absurd (omega arith)
+  refused_so why (Some other) e = (cc, refl, refl)
+  refused_so why None e = cc
 
   pub searched_refused : (why : Refusal) → ◌≡◌ {A = Result (Unit {0}) Refusal} (Err why) (unless (topmost (route_causes K sites (length labels) k ask (length row))) (Ok tt)) → Searched K sites links k ask labels labels row row (Err why)
   searched_refused why e = refused_so why _ e

@@ -1,6 +1,6 @@
 -- A catalogue is sound where each of its places is.
-use Rattle.std.proofs.Common.{true, ◌≡◌, ℕ, ◌<◌, ◌≤◌, false, not, List, length, Some, None, Option, sym, refl, ap, ◌∙◌}
-use Rattle.std.proofs.lemmas.Bool.{and_parts, and_from, ltb-true, lt-ltb, ne_eqb, eq-eqb, both_ways, not-true}
+use Rattle.std.proofs.Common.{true, ◌≡◌, ℕ, ◌<◌, ◌≤◌, List, length, Option, sym, ap, ◌∙◌}
+use Rattle.std.proofs.lemmas.Bool.{and_parts, ltb-true, eq-eqb, both_ways, not-true}
 use Rattle.measure.specs.Kind.{Kind}
 use Rattle.catalogue.specs.declared.Link.{Link}
 use Rattle.catalogue.specs.Places.{at}
@@ -21,20 +21,9 @@ module _ {V L : Type 0} (K : Kind V L) (sites : ℕ) (links : List (Option (Link
         admitted = apart.1;
       }
 
-  sound_link_passes : (s t : ℕ) (c : V) → SoundLink K sites s t c → sound_link K sites (record { start = s; end = t; value = c }) ≡ true
-  sound_link_passes s t c h =
-      and_from _ _ (lt-ltb _ _ h.start_in) (and_from _ _ (lt-ltb _ _ h.end_in) (and_from _ _ (ap not (ne_eqb s t h.ends_apart)) h.admitted))
-
   pub sound_from : sites ≤ 256 → length links ≤ 4096 → ((p : ℕ) → p < length links → sound_at K sites (at links p) ≡ true) → Sound K sites links
   sound_from few_sites few_places all = record {
     sites_few = few_sites;
     places_few = few_places;
     each = λ p s t c h. link_sound s t c (sym (ap (sound_at K sites) h) ∙ all p (holds_inside links p s t c h));
   }
-
-  at_sound : Sound K sites links → (p : ℕ) (x : Option (Link V)) → at links p ≡ x → sound_at K sites x ≡ true
-  at_sound sound p None e = refl
-  at_sound sound p (Some link) e = sound_link_passes link.start link.end link.value (sound.each p link.start link.end link.value e)
-
-  pub sound_refuted : (p : ℕ) → sound_at K sites (at links p) ≡ false → Sound K sites links → ⊥
-  sound_refuted p e sound = both_ways _ e (at_sound sound p (at links p) refl)

@@ -66,8 +66,8 @@ fn is_sound_at<M: Measure, N: Links<M>>(network: &N, sites: usize, place: usize)
         .is_none_or(|link| is_sound_link(sites, link))
 }
 
-// Whether the network is as a catalogue's calls make it. Each call asks: opening takes any size, and routing serves whatever answers
-// the questions of a catalogue, so that none of them owes it.
+// Whether the network is as a catalogue's calls make it. Routing looks for itself: to open a catalogue asks nothing of its size, and
+// whatever else answers a catalogue's questions is served too.
 fn is_sound<M: Measure, N: Links<M>>(network: &N) -> bool
     ensures yes { result ≡ true → Sound M.Measure.kind (N.Links.span network.now) (N.Links.links network.now) }
     ensures no { result ≡ false → Sound M.Measure.kind (N.Links.span network.now) (N.Links.links network.now) → ⊥ }

@@ -1,5 +1,5 @@
 use Rattle.std.proofs.Common.{ℕ, subst, arith}
-use Rattle.labels.specs.Labels.{table, In}
+use Rattle.labels.specs.Labels.{In}
 use Rattle.labels.proofs.Turns.{place_site, turn_settle, turn_wins, turn_apart, leads_all, none_waits, turn_less, starts_rests}
 use Rattle.routing.proofs.exploration.Exploration.explore.Goals as goal
 
@@ -8,7 +8,7 @@ loop-h-init g c =
     let self = c.args.self.now in
     let start = c.first_place in
     let some = self.some in
-    starts_rests g.met.M.Measure.lawful self.limit self.admitted (g.N.Links.links self.network.now) self.k self.source self.destination (table g.M.Measure.kind c.prepare.new.labels) start.result (omega (arith, start.ensures.value), omega (arith, start.ensures.value)) c.prepare.ensures
+    starts_rests g.met.M.Measure.lawful self.limit self.admitted (g.N.Links.links self.network.now) self.k self.source self.destination (omega (arith, start.ensures.value), omega (arith, start.ensures.value)) c.prepare.ensures
 
 pub returns-then-site-self : goal.returns-then-site-self
 returns-then-site-self g c =

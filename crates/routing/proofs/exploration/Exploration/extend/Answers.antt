@@ -9,9 +9,6 @@ pub loop-i-preserved-in_default : goal.loop-i-preserved-in_default
 loop-i-preserved-in_default g c =
     (turn_none g.met.M.Measure.lawful c.args.self.now.admitted c.args.self.now.sound c.loop-i.invariant.0 c.in_default.ensures, c.loop-i.invariant.1)
 
-pub first_place-start-requires : goal.first_place-start-requires
-first_place-start-requires g c = let o = c.in-Some.ensures in (c.args.self.now.sound.each _ _ _ _ o.leads).end_in
-
 pub offset_bounds-labels-start : goal.offset_bounds-labels-start
 offset_bounds-labels-start g c =
     let some = c.args.self.now.some in
