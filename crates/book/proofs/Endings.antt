@@ -6,7 +6,7 @@ use Rattle.std.proofs.lemmas.Option.{some_pair_parts}
 use Rattle.std.proofs.lemmas.Bool.{cond-true, cond-false}
 use Rattle.measure.specs.Kind.{Kind}
 use Rattle.report.specs.declared.Mark.{Mark}
-use Rattle.report.specs.declared.Mark.TheVariants.{Standing}
+use Rattle.report.specs.declared.Mark.TheVariants.{Standing, Doubtful}
 use Rattle.report.specs.declared.Refusal.{Refusal}
 use Rattle.report.specs.declared.Refusal.TheVariants.{CardEmpty, ReplyTooShort}
 use Rattle.report.specs.Refusals.{topmost, unless, filled_or}
@@ -16,17 +16,20 @@ use Rattle.routing.specs.declared.Ask.{Ask}
 use Rattle.routing.specs.declared.Route.{Route}
 use Rattle.cards.specs.declared.Card.{Card}
 use Rattle.cards.specs.Books.{Network, Book, with_card, leg_count, legs_at}
-use Rattle.cards.specs.Calls.{Emptied, differ, quote_causes, Quoted, quote_refused, discard_causes, Discarded, discard_refused, discarded, legs_of, Shown, read_refused, shown}
+use Rattle.cards.specs.Calls.{Emptied, differ, quote_causes, Quoted, quote_refused, recheck_causes, Rechecked, recheck_refused, still_standing, discard_causes, Discarded, discard_refused, discarded, legs_of, Shown, read_refused, shown}
 use Rattle.book.specs.Answers.{CardAnswer, Refiled}
-use Rattle.book.proofs.Answering.{quoted_so}
+use Rattle.book.proofs.Answering.{quoted_so, rechecked_so, recheck_why, rechecks}
 use Rattle.book.proofs.Refusing.{first_refused, first_passed, unless_tells, filled_refused, filled_passed, card_some, topmost_first, topmost_then}
 
--- what the checks answer: of the sites, of a quote, and of the card
+-- what the checks answer: of the sites, of a quote, of a recheck, and of the card
 abbrev sites_answer : {V L : Type 0} → Network V → Book V L → Result (Unit {0}) Refusal
 sites_answer n b = unless (topmost (differ n b ∷ [])) (Ok tt)
 
 abbrev quote_answer : {V L : Type 0} → Kind V L → Network V → Book V L → ℕ → ℕ → Ask L → ℕ → Result (Unit {0}) Refusal
 quote_answer K n b room card ask k = unless (topmost (drop 1 (quote_causes K n b room card ask k))) (Ok tt)
+
+abbrev recheck_answer : {V L : Type 0} → Kind V L → Network V → Book V L → ℕ → ℕ → ℕ → Result (Card V L) Refusal
+recheck_answer K n b room card k = unless (topmost (drop 1 (recheck_causes K n b room card k))) (filled_or CardEmpty (at b.cards card))
 
 abbrev card_answer : {V L : Type 0} → Book V L → ℕ → Result (Card V L) Refusal
 card_answer b card = unless (topmost (discard_causes b card)) (filled_or CardEmpty (at b.cards card))
@@ -47,6 +50,40 @@ module _ {V L : Type 0} {K : Kind V L} {n : Network V} {b : Book V L} {labels : 
   quote_done {r} e h empty answer =
       let cs = drop 1 (quote_causes K n b (length labels) card ask k) in
       quoted_so r (first_passed (differ n b) cs e ∙ unless_tells (topmost cs) (Ok tt) h) empty answer
+
+module _ {V L : Type 0} {K : Kind V L} {n : Network V} {b : Book V L} {labels : List (Label V)} {card k : ℕ} where
+  pub recheck_sites : {why : Refusal} → Err why ≡ sites_answer n b → Rechecked K n b labels card k (Err why) b labels
+  recheck_sites {why} e = recheck_refused why (first_refused (differ n b) (drop 1 (recheck_causes K n b (length labels) card k)) why e)
+
+  pub recheck_checks : {why : Refusal} → Ok tt ≡ sites_answer n b → Err why ≡ recheck_answer K n b (length labels) card k → Rechecked K n b labels card k (Err why) b labels
+  recheck_checks {why} e h = recheck_refused why (recheck_why K n b card (length labels) k e why h)
+
+  pub recheck_standing : {answer : Option (Route V)} → Ok tt ≡ sites_answer n b → is_ok (recheck_answer K n b (length labels) card k) ≡ true →
+      option_map {U = Mark × Option (Route V)} (λ (c : Card V L). (c.mark, c.answer)) (at b.cards card) ≡ Some (Standing, answer) → Rechecked K n b labels card k (Ok answer) b labels
+  recheck_standing {answer} e ok held = go (recheck_answer K n b (length labels) card k) refl ok
+    where
+      go : (r : Result (Card V L) Refusal) → r ≡ recheck_answer K n b (length labels) card k → is_ok r ≡ true → Rechecked K n b labels card k (Ok answer) b labels
+      go (Ok it) h ok =
+          let known = rechecks K n b card (length labels) k e it h in
+          let parts : ◌≡◌ {A = Option (Mark × Option (Route V))} (Some (it.mark, it.answer)) (Some (Standing, answer)) =
+          sym (ap (option_map {U = Mark × Option (Route V)} (λ (c : Card V L). (c.mark, c.answer))) known.here) ∙ held in
+          let (marks, answers) = some_pair_parts it.mark Standing it.answer answer parts in
+          subst (λ a. Rechecked K n b labels card k (Ok a) b labels) answers (still_standing it known.unrefused known.here marks)
+      go (Err why) h ok = cc
+
+  pub recheck_done : {ask : Ask L} {r : Result (Option (Route V)) Refusal} {b' : Book V L} {labels' : List (Label V)} → Ok tt ≡ sites_answer n b →
+      is_ok (recheck_answer K n b (length labels) card k) ≡ true → option_map {U = Mark × Ask L} (λ (c : Card V L). (c.mark, c.ask)) (at b.cards card) ≡ Some (Doubtful, ask) →
+      Emptied K labels' → CardAnswer K n k ask Standing b card r b' → Rechecked K n b labels card k r b' labels'
+  recheck_done {ask} {r} {b'} {labels'} e ok held empty found = go (recheck_answer K n b (length labels) card k) refl ok
+    where
+      go : (c : Result (Card V L) Refusal) → c ≡ recheck_answer K n b (length labels) card k → is_ok c ≡ true → Rechecked K n b labels card k r b' labels'
+      go (Ok it) h ok =
+          let known = rechecks K n b card (length labels) k e it h in
+          let parts : ◌≡◌ {A = Option (Mark × Ask L)} (Some (it.mark, it.ask)) (Some (Doubtful, ask)) =
+          sym (ap (option_map {U = Mark × Ask L} (λ (c : Card V L). (c.mark, c.ask))) known.here) ∙ held in
+          let (marks, asks) = some_pair_parts it.mark Doubtful it.ask ask parts in
+          rechecked_so it r known.unrefused known.here marks empty (subst (λ a. CardAnswer K n k a Standing b card r b') (sym asks) found)
+      go (Err why) h ok = cc
 
 -- a book that is filed anew
 refiled_is : {V L : Type 0} {b b' : Book V L} {card : ℕ} {what : Option (Card V L)} {legs : List ℕ} → Refiled b card what legs b' → b' ≡ with_card b card what legs
@@ -99,6 +136,8 @@ module _ {V L : Type 0} {b : Book V L} {card start : ℕ} {reply : List ℕ} whe
 
 -- how a quote ends, a discard, and a reading
 pub ruleset quotes = (quote_sites, quote_checks, quote_done)
+
+pub ruleset rechecks_end = (recheck_sites, recheck_checks, recheck_standing, recheck_done)
 
 pub ruleset discards = (discard_checks, discard_done)
 

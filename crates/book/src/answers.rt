@@ -146,7 +146,9 @@ pub fn quote<M: Measure>(
     answer_card(catalogue, book, labels, card, ask, k, Mark::Standing)
 }
 
-fn recheck_card<M: Measure>(
+// Finds the best route of a doubtful card anew; what a standing card has is answered as it is.
+#[tactic(auto, using(crate::proofs::Endings::rechecks_end))]
+pub fn recheck<M: Measure>(
     catalogue: &Catalogue<'_, M>,
     book: &mut QuoteBook<'_, M, M::Limit>,
     labels: &mut [Label<M>],
@@ -170,18 +172,4 @@ fn recheck_card<M: Measure>(
             next_mark(mark, MarkEvent::Answered),
         ),
     }
-}
-
-// Finds the best route of a doubtful card anew; what a standing card has is answered as it is.
-pub fn recheck<M: Measure>(
-    catalogue: &Catalogue<'_, M>,
-    book: &mut QuoteBook<'_, M, M::Limit>,
-    labels: &mut [Label<M>],
-    card: usize,
-    k: usize,
-) -> Result<Option<Route<M>>, Refusal>
-    ensures outcome { Rechecked M.Measure.kind (network_of catalogue.now) (book_of book.old) labels.old card k result (book_of book.new) labels.new }
-    ensures places { SamePlaces book.old book.new }
-{
-    recheck_card(catalogue, book, labels, card, k)
 }
