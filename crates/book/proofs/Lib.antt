@@ -3,3 +3,4 @@ pub mod Booked
 pub mod Refusing
 pub mod Answering
 pub mod Beginning
+pub mod Endings

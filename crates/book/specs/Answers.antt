@@ -1,5 +1,5 @@
 -- What the parts of the calls leave.
-use Rattle.std.specs.Prelude.{◌≡◌, ℕ, ◌≤◌, Bool, List, [], ◌∷◌, length, Some, Ok, Err, Option, Result}
+use Rattle.std.specs.Prelude.{◌≡◌, ℕ, ◌≤◌, Bool, List, [], ◌∷◌, length, Some, Ok, Err, Option, Result, ◌*◌, slice_set}
 use Rattle.std.proofs.Math.Seq.{paste}
 use Rattle.measure.specs.Kind.{Kind}
 use Rattle.report.specs.declared.Mark.{Mark}
@@ -43,3 +43,9 @@ CardAnswer K n k ask mark b card (Err why) b' = (site : ℕ) × (why ≡ LabelsF
 pub record Spread {V L : Type 0} (K : Kind V L) (news : News V) (b : Book V L) (count : ℕ) (b' : Book V L) : Type 0 where
   pub doubted : Doubted (rule_of K news) b b'.cards count
   pub rest : b' ≡ with_cards b b'.cards
+
+-- the quote book with another card at the place, and these legs in its row
+pub record Refiled {V L : Type 0} (b : Book V L) (card : ℕ) (what : Option (Card V L)) (legs : List ℕ) (b' : Book V L) : Type 0 where
+  pub width : b'.width ≡ b.width
+  pub cards : b'.cards ≡ slice_set b.cards card what
+  pub rows : b'.rows ≡ paste b.rows (card * b.width) (row_of legs b.width) b.width

@@ -128,7 +128,9 @@ fn answer_card<M: Measure>(
     Ok(answer)
 }
 
-fn quote_card<M: Measure>(
+// Finds the best route for what is asked, with k labels a site, and files it at an empty card place.
+#[tactic(auto, using(crate::proofs::Endings::quotes))]
+pub fn quote<M: Measure>(
     catalogue: &Catalogue<'_, M>,
     book: &mut QuoteBook<'_, M, M::Limit>,
     labels: &mut [Label<M>],
@@ -144,22 +146,9 @@ fn quote_card<M: Measure>(
     answer_card(catalogue, book, labels, card, ask, k, Mark::Standing)
 }
 
-// Finds the best route for what is asked, with k labels a site, and files it at an empty card place.
-pub fn quote<M: Measure>(
-    catalogue: &Catalogue<'_, M>,
-    book: &mut QuoteBook<'_, M, M::Limit>,
-    labels: &mut [Label<M>],
-    card: usize,
-    ask: Ask<M::Limit>,
-    k: usize,
-) -> Result<Option<Route<M>>, Refusal>
-    ensures outcome { Quoted M.Measure.kind (network_of catalogue.now) (book_of book.old) labels.old card ask k result (book_of book.new) labels.new }
-    ensures places { SamePlaces book.old book.new }
-{
-    quote_card(catalogue, book, labels, card, ask, k)
-}
-
-fn recheck_card<M: Measure>(
+// Finds the best route of a doubtful card anew; what a standing card has is answered as it is.
+#[tactic(auto, using(crate::proofs::Endings::rechecks_end))]
+pub fn recheck<M: Measure>(
     catalogue: &Catalogue<'_, M>,
     book: &mut QuoteBook<'_, M, M::Limit>,
     labels: &mut [Label<M>],
@@ -183,18 +172,4 @@ fn recheck_card<M: Measure>(
             next_mark(mark, MarkEvent::Answered),
         ),
     }
-}
-
-// Finds the best route of a doubtful card anew; what a standing card has is answered as it is.
-pub fn recheck<M: Measure>(
-    catalogue: &Catalogue<'_, M>,
-    book: &mut QuoteBook<'_, M, M::Limit>,
-    labels: &mut [Label<M>],
-    card: usize,
-    k: usize,
-) -> Result<Option<Route<M>>, Refusal>
-    ensures outcome { Rechecked M.Measure.kind (network_of catalogue.now) (book_of book.old) labels.old card k result (book_of book.new) labels.new }
-    ensures places { SamePlaces book.old book.new }
-{
-    recheck_card(catalogue, book, labels, card, k)
 }

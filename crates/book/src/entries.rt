@@ -1,14 +1,13 @@
 //! The calls on one card that need no catalogue.
-ghost use Rattle.std.specs.Prelude.{◌≡◌, ◌+◌, ◌≤◌, [], length, nat_lt};
+ghost use Rattle.std.specs.Prelude.{◌≡◌, ◌+◌, ◌≤◌, length, nat_lt};
 ghost use Rattle.std.proofs.Math.Seq.{paste};
 ghost use Rattle.report.specs.Refusals.{topmost, unless, filled_or};
 ghost use Rattle.report.specs.declared.Refusal.TheVariants.{CardEmpty};
 ghost use Rattle.catalogue.specs.Places.{at};
-ghost use Rattle.routing.specs.Searching.{row_of};
 ghost use Rattle.cards.specs.Calls.{discard_causes, Discarded, Shown};
 ghost use Rattle.book.specs.Stores.{book_of, SamePlaces};
 
-use crate::{QuoteBook, front, row_of, write_place};
+use crate::{QuoteBook, front, row_of};
 use cards::Card;
 use doubt::leg_count;
 use report::{Mark, Refusal};
@@ -27,32 +26,15 @@ pub(crate) fn filled<M: Copy, L: Copy>(
         .ok_or(Refusal::CardEmpty)
 }
 
-// Zeros the numbers from the start place on.
-fn clear_row(rows: &mut [u16], start: usize, width: usize)
-    requires { start + width ≤ length rows.old }
-    ensures { rows.new ≡ paste rows.old start (row_of [] width) width }
-{
-    rows[start..start + width].fill(0);
-}
-
-fn empty_card<M: Copy, L: Copy>(book: &mut QuoteBook<'_, M, L>, card: usize) -> Result<(), Refusal>
-    ensures outcome { Discarded (book_of book.old) card result (book_of book.new) }
-    ensures places { SamePlaces book.old book.new }
-{
-    filled(&*book, card)?;
-    let width = book.width();
-    let start = book.row_start(card);
-    write_place(book.cards, card, None);
-    clear_row(book.rows, start, width);
-    Ok(())
-}
-
 // Empties the card's place, and zeros its row.
+#[tactic(auto, using(crate::proofs::Endings::discards))]
 pub fn discard<M: Copy, L: Copy>(book: &mut QuoteBook<'_, M, L>, card: usize) -> Result<(), Refusal>
     ensures outcome { Discarded (book_of book.old) card result (book_of book.new) }
     ensures places { SamePlaces book.old book.new }
 {
-    empty_card(book, card)
+    filled(&*book, card)?;
+    book.empty(card);
+    Ok(())
 }
 
 // Whether so many numbers have no room from the start place on.
@@ -70,7 +52,9 @@ fn copy_into(numbers: &[u16], reply: &mut [u16], start: usize)
     reply[start..start + numbers.len()].copy_from_slice(numbers);
 }
 
-fn show_card<M: Copy, L: Copy>(
+// Answers the card's mark and answer, and copies its legs into the reply from the start place on.
+#[tactic(auto, using(crate::proofs::Endings::reads))]
+pub fn read<M: Copy, L: Copy>(
     book: &QuoteBook<'_, M, L>,
     card: usize,
     reply: &mut [u16],
@@ -86,16 +70,4 @@ fn show_card<M: Copy, L: Copy>(
     let row = row_of(book.rows, book.width(), card);
     copy_into(front(row, legs), reply, start);
     Ok((it.mark, it.answer))
-}
-
-// Answers the card's mark and answer, and copies its legs into the reply from the start place on.
-pub fn read<M: Copy, L: Copy>(
-    book: &QuoteBook<'_, M, L>,
-    card: usize,
-    reply: &mut [u16],
-    start: usize,
-) -> Result<(Mark, Option<Route<M>>), Refusal>
-    ensures { Shown (book_of book.now) card start reply.old result reply.new }
-{
-    show_card(book, card, reply, start)
 }

@@ -1,11 +1,14 @@
 //! The quote book: cards with the best routes for what was asked, the calls on one card, and the marking of all cards by news of a link.
 #![tactic(auto)]
 
-ghost use Rattle.std.specs.Prelude.{◌≡◌, ◌+◌, ◌*◌, ◌<◌, ◌≤◌, length, take, slice_set};
+ghost use Rattle.std.specs.Prelude.{◌≡◌, ◌+◌, ◌*◌, ◌<◌, ◌≤◌, [], length, take, None, slice_set};
+ghost use Rattle.std.proofs.Math.Seq.{paste};
 ghost use Rattle.catalogue.specs.Places.{at};
 ghost use Rattle.cards.specs.Books.{book_size_answer, opened_book, row_at};
 ghost use Rattle.cards.specs.Doubts.{uses};
-ghost use Rattle.book.specs.Stores.{row_width, book_of, Begins};
+ghost use Rattle.routing.specs.Searching.{row_of as row_with};
+ghost use Rattle.book.specs.Stores.{row_width, book_of, SamePlaces, Begins};
+ghost use Rattle.book.specs.Answers.{Refiled};
 
 use cards::Card;
 use catalogue::{empty_all, read_place};
@@ -81,6 +84,14 @@ fn write_place<T: Copy>(places: &mut [Option<T>], place: usize, what: Option<T>)
     places[place] = what;
 }
 
+// Zeros the numbers from the start place on.
+fn clear_row(rows: &mut [u16], start: usize, width: usize)
+    requires { start + width ≤ length rows.old }
+    ensures { rows.new ≡ paste rows.old start (row_with [] width) width }
+{
+    rows[start..start + width].fill(0);
+}
+
 fn emptied_book<'a, M: Measure>(
     cards: &'a mut [Option<Card<M, M::Limit>>],
     rows: &'a mut [u16],
@@ -127,6 +138,18 @@ impl<M: Copy, L: Copy> QuoteBook<'_, M, L> {
         ensures fits { result + (book_of self.now).width ≤ length self.now.rows.now }
     {
         card * self.width()
+    }
+
+    // Empties the card's place, and zeros its row.
+    fn empty(&mut self, card: usize)
+        requires { card < length self.old.cards.now }
+        ensures refiled { Refiled (book_of self.old) card None [] (book_of self.new) }
+        ensures places { SamePlaces self.old self.new }
+    {
+        let width = self.width();
+        let start = self.row_start(card);
+        write_place(self.cards, card, None);
+        clear_row(self.rows, start, width);
     }
 }
 
