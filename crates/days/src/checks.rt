@@ -101,6 +101,17 @@ impl<M: Measure + PartialEq + Debug> Day<'_, M, M::Limit> {
     }
 }
 
+// The memory of a day of these sizes after the calls, which answer what stands beside them.
+pub(crate) fn memory_after<M: Measure + PartialEq + Debug, R: Abort + Alloc>(
+    rt: &R,
+    sizes: Sizes,
+    turns: &[Turn<M, M::Limit>],
+) -> Result<Memory<M, M::Limit, R::A>, AllocError> {
+    let mut memory = lend(rt, sizes)?;
+    memory.open().check(rt, turns);
+    Ok(memory)
+}
+
 pub(crate) fn link<M: Measure>(start: u16, end: u16, value: M) -> Link<M> {
     Link { start, end, value }
 }

@@ -4,7 +4,6 @@ use cards::Call;
 use measure::pair::Loop;
 use measure::scalar::Sum;
 use report::{Mark, Refusal};
-use std::process::Abort;
 use std::test::Fail;
 
 const SIZES: Sizes = Sizes {
@@ -14,18 +13,6 @@ const SIZES: Sizes = Sizes {
     labels: 3,
     reply: 3,
 };
-
-// The calls answer what stands beside them, and leave these row numbers.
-fn check_loops(
-    rt: &(impl Abort + Alloc),
-    turns: &[Turn<Loop, u32>],
-    want: [u16; 6],
-) -> Result<(), Fail> {
-    let mut memory = lend(rt, SIZES)?;
-    memory.open().check(rt, turns);
-    assert_eq!(rt; memory.rows.as_slice(), want.as_slice());
-    Ok(())
-}
 
 // By 1 and 2 the delay is 9 and then 11; by 3 it is 10.
 #[test]
@@ -48,7 +35,9 @@ fn a_delay_grows(rt: HostRuntime) -> Result<(), Fail> {
         (recheck(1, 1), best(Mark::Standing, 1, Sum::new(8), 8, 8)),
         (Call::Withdraw { place: 3 }, counted(1)),
     ];
-    check_loops(&rt, &turns, [3, 0, 0, 3, 0, 0])
+    let memory = memory_after::<Loop, _>(&rt, SIZES, &turns)?;
+    assert_eq!(rt; memory.rows.as_slice(), [3, 0, 0, 3, 0, 0].as_slice());
+    Ok(())
 }
 
 // The sum of both links is over at first, and then the last number that is not.
@@ -73,5 +62,7 @@ fn limits_and_sums_at_their_ends(rt: HostRuntime) -> Result<(), Fail> {
             best(Mark::Standing, 2, Sum::new(last), last, last),
         ),
     ];
-    check_loops(&rt, &turns, [0, 1, 0, 1, 0, 0])
+    let memory = memory_after::<Loop, _>(&rt, SIZES, &turns)?;
+    assert_eq!(rt; memory.rows.as_slice(), [0, 1, 0, 1, 0, 0].as_slice());
+    Ok(())
 }

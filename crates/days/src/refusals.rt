@@ -197,7 +197,6 @@ fn quote_book_sizes(rt: HostRuntime) {
 // Link place 4, card 2, site 3 and 2,147,483,647 are the last.
 #[test]
 fn numbers_at_their_last(rt: HostRuntime) -> Result<(), Fail> {
-    let mut memory = lend(&rt, SIZES)?;
     let last = 2147483647;
     let limit = trunk_limits(last, last, last);
     let turns = [
@@ -212,6 +211,6 @@ fn numbers_at_their_last(rt: HostRuntime) -> Result<(), Fail> {
         (Call::Read { card: 2, start: 4 }, held(Mark::Standing, None)),
         (Call::Discard { card: 2 }, counted(0)),
     ];
-    memory.open().check(&rt, &turns);
+    memory_after::<Trunk, _>(&rt, SIZES, &turns)?;
     Ok(())
 }

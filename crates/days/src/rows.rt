@@ -41,9 +41,10 @@ fn check_used(rt: &impl Abort, labels: &[Label<Trunk>]) {
 }
 
 fn check_free(rt: &impl Abort, labels: &[Label<Trunk>]) {
-    for label in labels.iter().copied() {
-        assert!(rt; matches!(label.state, State::Free));
-    }
+    let are_free = labels
+        .iter()
+        .all(|label| matches!(label.state, State::Free));
+    assert!(rt; are_free);
 }
 
 // Site 0 is joined to 1 by link 1, and 1 to 3 by link 2.

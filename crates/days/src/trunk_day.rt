@@ -3,7 +3,6 @@ use crate::checks::*;
 use cards::{Call, Reply};
 use measure::pair::{Trunk, trunk_limits, trunk_value};
 use report::{Mark, Refusal};
-use std::process::Abort;
 use std::test::Fail;
 
 const SIZES: Sizes = Sizes {
@@ -13,14 +12,6 @@ const SIZES: Sizes = Sizes {
     labels: 16,
     reply: 4,
 };
-
-// The calls answer what stands beside them, and leave these numbers of the reply.
-fn check_trunk(rt: &(impl Abort + Alloc), turns: &[TrunkTurn], want: [u16; 4]) -> Result<(), Fail> {
-    let mut memory = lend(rt, SIZES)?;
-    memory.open().check(rt, turns);
-    assert_eq!(rt; memory.reply.as_slice(), want.as_slice());
-    Ok(())
-}
 
 // From 0 to 3 by 0 and 2 it is (7, 8, 2), by 1 and 2 (10, 3, 2), by 3 (9, 3, 1), of the ratios 8/10, 10/10 and 9/10.
 #[test]
@@ -48,7 +39,9 @@ fn a_delay_falls(rt: HostRuntime) -> Result<(), Fail> {
         ),
         (quote(0, 0, 3, limit, 4), Err(Refusal::CardFilled)),
     ];
-    check_trunk(&rt, &turns, [9, 0, 2, 9])
+    let memory = memory_after::<Trunk, _>(&rt, SIZES, &turns)?;
+    assert_eq!(rt; memory.reply.as_slice(), [9, 0, 2, 9].as_slice());
+    Ok(())
 }
 
 // By 0 it is (1, 1, 4) and then (1, 1, 3), by 1 and 2 (8, 8, 3), then (7, 8, 4), and then of a class that is too bad.
@@ -77,7 +70,9 @@ fn the_class_counts(rt: HostRuntime) -> Result<(), Fail> {
         (recheck(0, 4), held(Mark::Standing, None)),
         (read(0), held(Mark::Standing, None)),
     ];
-    check_trunk(&rt, &turns, [9; 4])
+    let memory = memory_after::<Trunk, _>(&rt, SIZES, &turns)?;
+    assert_eq!(rt; memory.reply.as_slice(), [9; 4].as_slice());
+    Ok(())
 }
 
 // The card has a route of two legs with this delay, the price 8 and class 2.
