@@ -33,18 +33,11 @@ fn used_label() -> Label<Trunk> {
 }
 
 fn check_used(rt: &impl Abort, labels: &[Label<Trunk>]) {
-    for label in labels.iter().copied() {
-        assert!(rt; matches!(label.state, State::Settled));
-        assert_eq!(rt; label.value, trunk_value(1, 2, 3));
-        assert_eq!(rt; (label.previous, label.link), (5, 6));
-    }
+    assert!(rt; labels.iter().all(|label| *label == used_label()));
 }
 
 fn check_free(rt: &impl Abort, labels: &[Label<Trunk>]) {
-    let are_free = labels
-        .iter()
-        .all(|label| matches!(label.state, State::Free));
-    assert!(rt; are_free);
+    assert!(rt; labels.iter().all(|label| label.state == State::Free));
 }
 
 // Site 0 is joined to 1 by link 1, and 1 to 3 by link 2.

@@ -32,6 +32,7 @@ fn is_shown(model: &Model, card: usize, reply: PlainReply, numbers: &[u16]) -> b
 impl<M: Kind> Trial<'_, M, M::Limit> {
     // Reads the card, filled or not, and compares.
     fn audit_card(&mut self, card: usize) -> Result<(), Wrong> {
+        // an array, as a reply is lent
         let mut numbers = [BLANK; LEGS];
         let reply = read_card(&self.book, card, &mut numbers, 1);
         let is_shown = is_shown(&self.model, card, reply, &numbers);

@@ -15,7 +15,7 @@ const BUFFER: usize = 32;
 // What stands in the buffer before.
 const UNWRITTEN: u8 = 238;
 
-// How many bytes follow the kind of a record.
+// How many bytes follow the kind of a record: said anew, since nothing here is taken from the library's reader.
 fn body_of(kind: u8) -> Option<usize> {
     match kind {
         1 | 4 => Some(18),

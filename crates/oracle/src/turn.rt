@@ -35,7 +35,7 @@ pub struct Trial<'a, M, L> {
     pub tally: &'a mut Tally,
 }
 
-// The second of the two, or the first.
+// The second of the two, or the first: a function, since the borrow checker does not follow the choice inside another one.
 fn pick<'x, T>(first: &'x mut T, second: &'x mut T, is_second: bool) -> &'x mut T {
     if is_second { second } else { first }
 }

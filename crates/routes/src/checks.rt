@@ -80,6 +80,7 @@ pub(crate) fn both_ways<M: Measure, A: Allocator>(
 }
 
 // The legs of the route stand at the head of the row: a walk from the source to the destination, of the route's value. Zeros follow.
+// The two sites are handed over by themselves: the borrow checker does not cover a question that is used again once it was copied.
 fn check_legs<M: Measure + PartialEq + Debug>(
     rt: &impl Abort,
     network: &Catalogue<'_, M>,
