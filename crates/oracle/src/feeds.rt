@@ -26,11 +26,13 @@ fn body_of(kind: u8) -> Option<usize> {
 
 // The number in so many bytes from the place on, the greatest first.
 fn number(bytes: &[u8], place: usize, width: usize) -> u32 {
-    let mut number = 0u32;
-    for byte in bytes.iter().skip(place).take(width) {
-        number = number.wrapping_mul(256).wrapping_add(*byte as u32);
-    }
-    number
+    bytes
+        .iter()
+        .skip(place)
+        .take(width)
+        .fold(0u32, |number, byte| {
+            number.wrapping_mul(256).wrapping_add(u32::from(*byte))
+        })
 }
 
 fn short(bytes: &[u8], place: usize) -> u16 {
@@ -74,34 +76,26 @@ fn record_of(bytes: &[u8], kind: u8) -> Record {
 
 // What the feed holds at the place, and how many bytes are left to read after it.
 fn foreseen(bytes: &[u8], place: usize) -> (Reading, usize) {
-    let part = &bytes[place.min(bytes.len())..];
-    let Some(kind) = part.first().copied() else {
+    let part = bytes.get(place..).unwrap_or_default();
+    let Some((kind, body)) = part.split_first() else {
         return (Ok(None), 0);
     };
-    let Some(body) = body_of(kind) else {
+    let Some(length) = body_of(*kind) else {
         return (Err(Refusal::UnknownKind { place }), 0);
     };
-    let present = part.len() - 1;
-    if present < body {
-        let missing = body - present;
+    if body.len() < length {
+        let missing = length - body.len();
         return (Err(Refusal::CutShort { place, missing }), 0);
     }
-    (Ok(Some(record_of(part, kind))), present - body)
+    (Ok(Some(record_of(part, *kind))), body.len() - length)
 }
 
 // Whether the buffer is unwritten but for the bytes from the place on.
 fn has_only(buffer: &[u8], place: usize, bytes: &[u8]) -> bool {
-    for (i, byte) in buffer.iter().enumerate() {
-        let wanted = if i < place {
-            UNWRITTEN
-        } else {
-            bytes.get(i - place).copied().unwrap_or(UNWRITTEN)
-        };
-        if *byte != wanted {
-            return false;
-        }
-    }
-    true
+    buffer.iter().enumerate().all(|(i, byte)| {
+        let wanted = i.checked_sub(place).and_then(|i| bytes.get(i));
+        *byte == wanted.copied().unwrap_or(UNWRITTEN)
+    })
 }
 
 // Writes the record, which was read from these bytes, where there is room for it or not.
