@@ -1,5 +1,8 @@
 //! A whole feed: its records are served in order, and a line is written for each.
-ghost use Rattle.std.specs.Prelude.{◌≡◌};
+ghost use Rattle.std.specs.Prelude.{◌≡◌, ◌≤◌, length};
+ghost use Rattle.std.specs.Iterator.Adapters.{zip_first, zip_second};
+ghost use Rattle.records.specs.Records.{records_from};
+ghost use Rattle.feed.specs.Records.{unread};
 ghost use Rattle.std.specs.Io.KnownBytes.{Appends};
 ghost use Rattle.book.specs.Stores.{memory_of, SameLinks, SamePlaces};
 ghost use Rattle.cards.specs.Runs.{lent};
@@ -8,12 +11,14 @@ ghost use Rattle.service.specs.Feeds.{PrintsLine, PrintsRecord, PrintsFeed, room
 
 use crate::{ServiceError, print, serve};
 use catalogue::Catalogue;
-use feed::{Record, read_records};
+use feed::{Record, Records, read_records};
 use labels::Label;
 use line::{Reply as Printed, write_line};
 use measure::pair::{Trunk, TrunkLimit};
 use quotes::QuoteBook;
 use std::io::Write;
+use std::iter::Zip;
+use std::ops::RangeFrom;
 
 // Room for the longest line: a route with a leg for each site.
 const LINE: usize = 2048;
@@ -52,6 +57,15 @@ pub fn serve_record<W: Write>(
     print_line(out, number, printed, &reply[0..count.min(reply.len())])
 }
 
+// The feed's records, each with the number of its line.
+fn numbered(feed: &[u8]) -> Zip<RangeFrom<usize>, Records<'_>>
+    ensures first { (zip_first result).start ≡ 1 }
+    ensures records { unread (zip_second result) ≡ records_from feed.now 0 }
+    ensures within { length (unread (zip_second result)) ≤ length feed.now }
+{
+    (1..).zip(read_records(feed))
+}
+
 // Serves the feed's records in order, with k labels a site, and writes a line for each, up to the first that cannot be read.
 pub fn serve_feed<W: Write>(
     out: &mut W,
@@ -66,8 +80,7 @@ pub fn serve_feed<W: Write>(
     ensures links { SameLinks catalogue.old catalogue.new }
     ensures places { SamePlaces book.old book.new }
 {
-    for (turn, reading) in read_records(feed).enumerate() {
-        let number = turn + 1;
+    for (number, reading) in numbered(feed) {
         match reading {
             Ok(record) => {
                 serve_record(out, number, catalogue, book, labels, k, reply, record)?;
