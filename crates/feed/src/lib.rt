@@ -3,6 +3,9 @@
 //!
 //! A record is one byte of kind, and then a body whose length the kind fixes. Numbers are big-endian: places and sites have 16 bits,
 //! measures 32.
+//!
+//! By a rule of the project each kind has one slice pattern, with its kind byte, the named bytes of its fields and the rest, so that its layout
+//! stands there byte by byte: an offer and a quote, which differ in no more than names, stay two functions, and the kinds of one number four arms.
 #![tactic(auto)]
 
 ghost use Rattle.std.specs.Prelude.{◌≡◌, ℕ, ◌+◌, ◌-◌, ◌≤◌, length, drop, Some, slice_index};
@@ -235,6 +238,7 @@ fn part_from(input: &[u8], start: usize) -> &[u8]
 
 // What the feed holds at the start place, counted from 0, and the part of it that is still to be read: empty where there is no record.
 // The next start place is `input.len() - rest.len()`. A record that was read is written as the bytes that it was read from.
+// By a rule of the project the answer is the pair itself, in no Option or Result.
 pub fn read_record(input: &[u8], start: usize) -> (Reading, &[u8])
     ensures reading { result.0 ≡ reading_of (drop start input.now) start }
     ensures rest { result.1.now ≡ unread_of (drop start input.now) }

@@ -32,7 +32,7 @@ fn number(bytes: &[u8], place: usize, width: usize) -> u32 {
         .skip(place)
         .take(width)
         .fold(0u32, |number, byte| {
-            number.wrapping_mul(256).wrapping_add(*byte as u32)
+            number.wrapping_mul(256).wrapping_add(u32::from(*byte))
         })
 }
 
@@ -77,19 +77,18 @@ fn record_of(bytes: &[u8], kind: u8) -> Record {
 
 // What the feed holds at the place, and how many bytes are left to read after it.
 fn foreseen(bytes: &[u8], place: usize) -> (Reading, usize) {
-    let part = &bytes[place.min(bytes.len())..];
-    let Some(kind) = part.first().copied() else {
+    let part = bytes.get(place..).unwrap_or_default();
+    let Some((kind, body)) = part.split_first() else {
         return (Ok(None), 0);
     };
-    let Some(body) = body_of(kind) else {
+    let Some(length) = body_of(*kind) else {
         return (Err(Refusal::UnknownKind { place }), 0);
     };
-    let present = part.len() - 1;
-    if present < body {
-        let missing = body - present;
+    if body.len() < length {
+        let missing = length - body.len();
         return (Err(Refusal::CutShort { place, missing }), 0);
     }
-    (Ok(Some(record_of(part, kind))), present - body)
+    (Ok(Some(record_of(part, *kind))), body.len() - length)
 }
 
 // Writes the record, which was read from these bytes, where there is room for it or not.

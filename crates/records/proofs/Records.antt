@@ -1,30 +1,20 @@
 -- A feed's records in order.
-use Rattle.std.proofs.Common.{◌≡◌, ℕ, zero, suc, ◌+◌, ◌-◌, ◌<◌, ◌≤◌, cond, List, [], ◌∷◌, length, drop, Some, None, Ok, Err, Option, Result, sym, refl, ap, subst, ◌∙◌, ⊎_elim, arith, length-drop}
-use Rattle.std.proofs.lemmas.Bool.{cases_lt, le-leb}
-use Rattle.std.proofs.lemmas.List.{drop_all}
+use Rattle.std.proofs.Common.{◌≡◌, ℕ, zero, suc, ◌+◌, ◌-◌, ◌≤◌, List, [], ◌∷◌, length, drop, Some, None, Ok, Err, Option, Result, sym, refl, ap, subst, ◌∙◌, arith, length-drop}
+use Rattle.std.proofs.lemmas.Grind.{common_steps}
 use Rattle.std.specs.Iterator.{YieldsFirst}
 use Rattle.std.specs.Result.{result_transpose}
 use Rattle.report.specs.declared.Refusal.{Refusal}
 use Rattle.records.specs.declared.Record.{Record}
-use Rattle.records.specs.Feed.{body_length, whole, after, reading_of, unread_of}
+use Rattle.records.specs.Feed.{reading_of, unread_of}
 use Rattle.records.specs.Records.{come, next_place, come_first, records_from}
 use Rattle.records.proofs.Readings.{reads_nothing, reads_ahead, reads_within}
 
 -- where no record is read nothing is left
-cut : (o : Option ℕ) (body : List ℕ) (it : Record) (why : Refusal) (reading : Result (Option Record) Refusal)
-    → cond (whole o body) (Ok (Some it)) (Err why) ≡ reading → ((r : Record) → reading ≡ Ok (Some r) → ⊥) → after o body ≡ []
-cut None body it why reading e none = refl
-cut (Some n) body it why reading e none =
-    ⊎_elim
-    (λ (h : length body < n). drop_all n body (omega arith))
-    (λ (h : n ≤ length body). absurd (none it (sym (rw (le-leb n (length body) h) at e))))
-    (cases_lt (length body) n)
-
 none_left : (bs : List ℕ) (place : ℕ) (reading : Result (Option Record) Refusal)
     → reading_of bs place ≡ reading → ((r : Record) → reading ≡ Ok (Some r) → ⊥) → unread_of bs ≡ []
 unfolding reading_of unread_of
 none_left [] place reading e none = refl
-none_left (x ∷ body) place reading e none = cut (body_length x) body _ _ reading e none
+none_left (x ∷ body) place reading e none = grind (arith, common_steps)
 
 -- only behind a record do others come
 same_come : (reading : Result (Option Record) Refusal) {xs ys : List (Result Record Refusal)}
@@ -59,7 +49,7 @@ module _ (feed : List ℕ) where
   -- past the end nothing comes
   ended : (start : ℕ) (others : List (Result Record Refusal)) → length feed ≤ start → come (reading_of (drop start feed) start) others ≡ []
   ended start others h =
-      ap (λ r. come r others) (sym (reads_nothing (drop start feed) start (omega (arith, length-drop start feed))).0)
+      let e = (reads_nothing (drop start feed) start (omega (arith, length-drop start feed))).0 in cc
 
   -- what is left behind a record is shorter
   nearer : (start n : ℕ) (it : Record) → length feed ≤ start + suc n → reading_of (drop start feed) start ≡ Ok (Some it) → length feed ≤ next_place feed start + n
@@ -94,15 +84,14 @@ module _ (feed : List ℕ) where
   comes : (start next : ℕ) (reading : Result (Option Record) Refusal) (rest : List ℕ)
       → reading ≡ reading_of (drop start feed) start → rest ≡ unread_of (drop start feed) → next ≡ length feed - length rest
       → YieldsFirst (records_from feed) start (result_transpose reading) next
-  comes start next (Ok (Some it)) rest e u n =
-      records_next start ∙ ap (λ r. come r (records_from feed (next_place feed start))) (sym e)
-      ∙ ap (λ k. Ok it ∷ records_from feed k) (ap (λ (xs : List ℕ). length feed - length xs) (sym u) ∙ sym n)
+  comes start next (Ok (Some it)) rest e u n = cc (records_next start)
   comes start next (Ok None) rest e u n =
       let l : length rest ≡ 0 = ap length (u ∙ none_left (drop start feed) start (Ok None) (sym e) (λ r f. cc)) in
-      (records_next start ∙ ap (λ r. come r (records_from feed (next_place feed start))) (sym e), past next (omega arith))
+      (cc (records_next start), past next (omega arith))
   comes start next (Err why) rest e u n =
       let l : length rest ≡ 0 = ap length (u ∙ none_left (drop start feed) start (Err why) (sym e) (λ r f. cc)) in
-      records_next start ∙ ap (λ r. come r (records_from feed (next_place feed start))) (sym e) ∙ ap (λ xs. Err why ∷ xs) (sym (past next (omega arith)))
+      let p = past next (omega arith) in
+      cc (records_next start)
 
   pub comes_first : (start next : ℕ) {reading : Result (Option Record) Refusal} {rest : List ℕ} {item : Option (Result Record Refusal)}
       → reading ≡ reading_of (drop start feed) start → rest ≡ unread_of (drop start feed) → item ≡ result_transpose reading → next ≡ length feed - length rest

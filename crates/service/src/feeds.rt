@@ -1,14 +1,19 @@
 //! A whole feed: its records are served in order, and a line is written for each.
-ghost use Rattle.std.specs.Prelude.{◌≡◌};
+ghost use Rattle.std.specs.Prelude.{◌≡◌, ◌≤◌, length};
+ghost use Rattle.std.specs.Iterator.Adapters.{zip_first, zip_second};
 ghost use Rattle.std.specs.Io.KnownBytes.{Appends};
+ghost use Rattle.records.specs.Records.{records_from};
+ghost use Rattle.feed.specs.Records.{unread};
 ghost use Rattle.line.specs.Lines.{line_of};
 ghost use Rattle.service.specs.Services.{memory_in, lent_by, room_in, SameService};
 ghost use Rattle.service.specs.Feeds.{PrintsLine, PrintsRecord, PrintsFeed};
 
 use crate::{Service, ServiceError, print};
-use feed::{Record, read_records};
+use feed::{Record, Records, read_records};
 use line::{Reply as Printed, write_line};
 use std::io::Write;
+use std::iter::Zip;
+use std::ops::RangeFrom;
 
 // Room for the longest line: a route with a leg for each site.
 const LINE: usize = 2048;
@@ -26,6 +31,15 @@ pub fn print_line<W: Write>(
     let end = write_line(number, reply, legs, &mut buffer, 0)?;
     out.write_all(&buffer[0..end])?;
     Ok(())
+}
+
+// The feed's records, each with the number of its line.
+fn numbered(feed: &[u8]) -> Zip<RangeFrom<usize>, Records<'_>>
+    ensures first { (zip_first result).start ≡ 1 }
+    ensures records { unread (zip_second result) ≡ records_from feed.now 0 }
+    ensures within { length (unread (zip_second result)) ≤ length feed.now }
+{
+    (1..).zip(read_records(feed))
 }
 
 impl Service<'_> {
@@ -48,8 +62,7 @@ impl Service<'_> {
         ensures printed { PrintsFeed feed.now (room_in self.old) (memory_in self.old) (W.Write.contents out.old) (W.Write.contents out.new) (memory_in self.new) result }
         ensures same { SameService self.old self.new }
     {
-        for (turn, reading) in read_records(feed).enumerate() {
-            let number = turn + 1;
+        for (number, reading) in numbered(feed) {
             match reading {
                 Ok(record) => self.serve_record(out, number, record)?,
                 Err(why) => return print_line(out, number, Printed::Refused(why), &[]),
