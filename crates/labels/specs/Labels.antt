@@ -159,13 +159,6 @@ freed x = record { state = Free; value = x.value; previous = x.previous; link = 
 abbrev pub cleared : {V L : Type 0} → Kind V L → V → Label V → Label V
 cleared K n x = cond (yields K n x) (freed x) x
 
-module _ {V L : Type 0} (K : Kind V L) (A B : ℕ → Label V) (n : V) where
-  -- B is A, where the labels from `start` on and below `end` that the newcomer n dominates gave up their places
-  pub record Clears (start end : ℕ) : Type 0 where
-    pub low : (p : ℕ) → p < start → B p ≡ A p
-    pub within : (p : ℕ) → start ≤ p → p < end → B p ≡ cleared K n (A p)
-    pub high : (p : ℕ) → end ≤ p → B p ≡ A p
-
 -- the same labels are settled in A and in B
 abbrev pub Steady : {V : Type 0} (A B : ℕ → Label V) → Type 0
 Steady A B = (p : ℕ) → is_settled (B p).state ≡ is_settled (A p).state

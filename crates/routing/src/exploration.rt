@@ -119,6 +119,7 @@ impl<M: Measure, N: Links<M>> Exploration<'_, M, N> {
     }
 
     // Writes the legs of the walk of the label at `p` to the front of the row, the last leg first, and answers how many there are.
+    // There are fewer than sites, so that the row is never used up.
     fn trace(&self, labels: &[Label<M>], p: usize, row: &mut [u16]) -> usize
         requires wins { Wins M.Measure.kind self.now.limit (N.Links.links self.now.network.now) self.now.k self.now.source self.now.destination (table M.Measure.kind labels.now) p }
         requires room { N.Links.span self.now.network.now ≤ length row.old }
@@ -135,7 +136,7 @@ impl<M: Measure, N: Links<M>> Exploration<'_, M, N> {
             *leg = label.link as u16;
             q = label.previous;
         }
-        row.len()
+        unreachable!()
     }
 
     // Writes the legs of the walk of the label at `p` to the front of the row and zeros after them, and answers how many legs there are.

@@ -40,10 +40,10 @@ loop-i-preserved g c =
     (subst (λ (y : Label g.row.M.Denot). Traced K (g.N.Links.links self.network.now) self.k self.source self.destination A (A c.args.p).value y.previous (y.link ∷ reverse (take c.loop-i.i c.loop-i.row))) (sym here)
     (traced_more c.loop-i.invariant (λ e. c.if-label-q.false (ap (λ y. y.previous) here ∙ e))))
 
-pub returns : goal.returns
-returns g c =
+pub unreachable-requires : goal.unreachable-requires
+unreachable-requires g c =
     let self = c.args.self.now in
     let long = legs_long c.loop-i.row c.loop-i.i (omega arith) in
     let inside = self.source_in in
     let short = traced_short self.sound (reverse (take c.loop-i.i c.loop-i.row)) (omega (arith, c.requires.room)) c.loop-i.invariant in
-    absurd (omega (arith, c.requires.room))
+    omega (arith, c.requires.room)
