@@ -24,6 +24,9 @@ book_of q = record { width = row_width q.sites (length q.cards.now) (length q.ro
 abbrev pub memory_of : {V L : Type 0} → Catalogue V → QuoteBook V L → Memory V L
 memory_of c q = memory (network_of c) (book_of q)
 
+-- The next two are clauses of their own, beside the outcome of each call that is lent a store: the outcome speaks of what stores hold, and
+-- these of whose memory holds it, by which the caller reads the lent places afterwards.
+
 -- the places are the same memory as before, whatever they hold
 abbrev pub SameLinks : {V : Type 0} → Catalogue V → Catalogue V → Type 0
 SameLinks c c' = c'.links.ghost_name ≡ c.links.ghost_name

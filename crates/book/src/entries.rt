@@ -41,7 +41,7 @@ pub fn discard<M: Copy, L: Copy>(book: &mut QuoteBook<'_, M, L>, card: usize) ->
 fn is_short(room: usize, start: usize, count: usize) -> bool
     ensures { result ≡ nat_lt room (start + count) }
 {
-    start > room || count > room - start
+    room.checked_sub(start).is_none_or(|left| left < count)
 }
 
 // Copies the numbers into the reply from the start place on.

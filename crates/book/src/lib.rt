@@ -20,6 +20,7 @@ mod answers;
 mod entries;
 mod marking;
 
+// The calls are functions, as those on both a catalogue and a quote book are: all seven are called in one form.
 pub use answers::{check_sites, quote, recheck};
 pub use entries::{discard, read};
 pub use marking::spread;
@@ -62,7 +63,7 @@ fn front(numbers: &[u16], count: usize) -> &[u16]
     numbers.get(..count).unwrap_or(numbers)
 }
 
-// The row of a card: empty past the last.
+// The row of a card: empty past the last. It is cut by its start, since `chunks` is not defined for rows of no numbers.
 fn row_of(rows: &[u16], width: usize, card: usize) -> &[u16]
     ensures { result.now ≡ row_at width rows.now card }
 {
@@ -77,6 +78,7 @@ fn uses_leg(legs: &[u16], link: usize) -> bool
     legs.iter().any(|leg| *leg as usize == link)
 }
 
+// The one write to a card place, by itself, so that a wrong one is refused here and not in what is proved of the calls.
 fn write_place<T: Copy>(places: &mut [Option<T>], place: usize, what: Option<T>)
     requires { place < length places.old }
     ensures { places.new ≡ slice_set places.old place what }
