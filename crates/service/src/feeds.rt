@@ -8,7 +8,7 @@ ghost use Rattle.line.specs.Lines.{line_of};
 ghost use Rattle.service.specs.Services.{memory_in, lent_by, room_in, SameService};
 ghost use Rattle.service.specs.Feeds.{PrintsLine, PrintsRecord, PrintsFeed};
 
-use crate::{Service, ServiceError, print};
+use crate::{Service, ServiceError};
 use feed::{Record, Records, read_records};
 use line::{Reply as Printed, write_line};
 use std::io::Write;
@@ -53,8 +53,9 @@ impl Service<'_> {
         ensures printed { PrintsRecord (memory_in self.old) (lent_by self.old) number «record» self.old.k (W.Write.contents out.old) (W.Write.contents out.new) (memory_in self.new) (lent_by self.new) result }
         ensures same { SameService self.old self.new }
     {
-        let (printed, count) = print(self.serve(record));
-        print_line(out, number, printed, self.first_numbers(count))
+        let reply = self.serve(record);
+        let (printed, legs) = self.printed(reply);
+        print_line(out, number, printed, legs)
     }
 
     // Serves the feed's records in order, and writes a line for each, up to the first that cannot be read.

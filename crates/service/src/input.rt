@@ -1,10 +1,13 @@
 //! The trunk product's program: the input is read as a feed and served from its first record to its last.
-ghost use Rattle.std.specs.Prelude.{IfOk};
-ghost use Rattle.service.specs.Input.{Fills, PrintsInput};
+ghost use Rattle.std.specs.Prelude.{◌≡◌, replicate, IfOk};
+ghost use Rattle.service.specs.Services.{memory_in, room_in};
+ghost use Rattle.service.specs.Input.{opened_day, day_room, Fills, PrintsInput};
 
 use crate::{Service, ServiceError};
-use catalogue::{Catalogue, check_size};
-use measure::pair::Trunk;
+use cards::Card;
+use catalogue::{Catalogue, Link, check_size};
+use labels::Label;
+use measure::pair::{Trunk, TrunkLimit};
 use quotes::{QuoteBook, check_book_size};
 use routing::free_label;
 use std::io;
@@ -43,6 +46,28 @@ pub fn read_input<R: Read>(input: &mut R, buffer: &mut [u8]) -> io::Result<usize
     Ok(got)
 }
 
+// A service over the program's memory, with a catalogue and a quote book just opened.
+#[tactic(auto, using(crate::proofs::Opening::day_opened))]
+fn open_service<'a>(
+    links: &'a mut [Option<Link<Trunk>>; PLACES],
+    cards: &'a mut [Option<Card<Trunk, TrunkLimit>>; CARDS],
+    rows: &'a mut [u16; ROWS],
+    labels: &'a mut [Label<Trunk>; WORKSPACE],
+    reply: &'a mut [u16; SITES],
+) -> Service<'a>
+    requires { rows.old ≡ replicate 128 0 }
+    ensures memory { memory_in result ≡ opened_day }
+    ensures room { room_in result ≡ day_room }
+{
+    Service {
+        catalogue: Catalogue::open(links, SITES),
+        book: QuoteBook::open(cards, rows, SITES),
+        labels,
+        k: LABELS,
+        reply,
+    }
+}
+
 // Opens a catalogue of sixteen sites and thirty-two link places and a quote book of eight cards, reads up to 65,536 bytes of input as a
 // feed, and writes a line for each record, with eight labels a site.
 pub fn serve_input<R: Read, W: Write>(input: &mut R, out: &mut W) -> Result<(), ServiceError>
@@ -56,13 +81,7 @@ pub fn serve_input<R: Read, W: Write>(input: &mut R, out: &mut W) -> Result<(), 
     let mut reply = [0u16; SITES];
     check_size(SITES, PLACES)?;
     check_book_size(SITES, CARDS, ROWS)?;
-    let mut service = Service {
-        catalogue: Catalogue::open(&mut links, SITES),
-        book: QuoteBook::open(&mut cards, &mut rows, SITES),
-        labels: &mut labels,
-        k: LABELS,
-        reply: &mut reply,
-    };
+    let mut service = open_service(&mut links, &mut cards, &mut rows, &mut labels, &mut reply);
     let got = read_input(input, &mut buffer)?;
     service.serve_feed(out, &buffer[0..got])
 }

@@ -1,12 +1,13 @@
 //! What serves the records of a feed: the trunk product's catalogue and quote book, with the memory that is lent to their calls.
 ghost use Rattle.std.specs.Prelude.{◌≡◌, take};
-ghost use Rattle.service.specs.Serving.{Served};
+ghost use Rattle.service.specs.Serving.{Served, printed};
 ghost use Rattle.service.specs.Services.{memory_in, lent_by, Performed, SameService};
 
-use crate::{call_of, card_read};
+use crate::{call_of, card_read, print};
 use cards::{Call, Reply};
 use catalogue::Catalogue;
 use labels::Label;
+use line::Reply as Printed;
 use measure::pair::{Trunk, TrunkLimit};
 use quotes::{QuoteBook, perform};
 use records::Record;
@@ -48,10 +49,12 @@ impl Service<'_> {
         }
     }
 
-    // The first numbers of the reply, or all where it has fewer.
-    pub(crate) fn first_numbers(&self, count: usize) -> &[u16]
-        ensures { result.now ≡ take count self.now.reply.now }
+    // What is printed of a reply, and the legs of its route: the first numbers of those that are lent, or all where there are fewer.
+    pub(crate) fn printed(&self, reply: Reply<Trunk>) -> (Printed, &[u16])
+        ensures printed { result.0 ≡ (printed reply).0 }
+        ensures legs { result.1.now ≡ take (printed reply).1 self.now.reply.now }
     {
-        &self.reply[0..count.min(self.reply.len())]
+        let (printed, count) = print(reply);
+        (printed, &self.reply[..count.min(self.reply.len())])
     }
 }

@@ -1,11 +1,11 @@
-use Rattle.std.proofs.Common.{◌≡◌, ℕ, length, refl, arith}
+use Rattle.std.proofs.Common.{◌≡◌, ℕ, length, arith}
 use Rattle.std.proofs.lemmas.List.{length-replicate}
-use Rattle.service.proofs.Opening.{day_opened, input_printed, served_whole}
+use Rattle.service.proofs.Opening.{input_printed, served_whole}
 use Rattle.service.proofs.input.serve_input.Goals as goal
 
 pub returns : goal.returns
 returns g c =
-    let day = day_opened c.«open».result c.open-2.result c.«open».ensures.sites c.«open».ensures.links c.open-2.ensures.book in
+    let opened = c.open_service-service.ensures in
     let long : length c.read_input.new.buffer ≡ 65536 = omega (arith, c.read_input.auto.buffer, length-replicate {A = ℕ}) in
     served_whole _ _ _ _ c.serve_feed.result
-    (input_printed _ _ _ _ c.read_input.new.buffer c.in_ok-got.got _ _ _ _ long c.in_ok-got.ensures refl day c.serve_feed.ensures.printed)
+    (input_printed _ _ _ _ c.read_input.new.buffer c.in_ok-got.got _ _ _ _ long c.in_ok-got.ensures opened.room opened.memory c.serve_feed.ensures.printed)
