@@ -20,7 +20,7 @@ mod answers;
 mod entries;
 mod marking;
 
-// The calls are functions, as those on both a catalogue and a quote book are: all seven are called in one form.
+// The calls are functions, and not methods, by a rule of the project: most are of a catalogue and a quote book together.
 pub use answers::{check_sites, quote, recheck};
 pub use entries::{discard, read};
 pub use marking::spread;

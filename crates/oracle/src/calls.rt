@@ -3,7 +3,7 @@ use crate::figures::Share;
 use crate::kind::Kind;
 use crate::model::{PlainAsk, PlainLink, PlainRoute};
 use crate::request::Request;
-use cards::{Call, Reply};
+use cards::{Answer, Call, Reply};
 use catalogue::{Catalogue, Link};
 use labels::Label;
 use quotes::{QuoteBook, change, discard, offer, perform, quote, read, recheck, withdraw};
