@@ -1,21 +1,12 @@
 -- Stores by what they hold.
 use Rattle.std.proofs.Common.{◌≡◌, ℕ, ◌+◌, ◌*◌, ◌≤◌, List, length, set, Option, refl, ap, ◌∙◌, arith, length-set}
 use lib.Seq.{length-paste, paste}
-use Rattle.catalogue.specs.declared.Catalogue.{Catalogue}
-use Rattle.catalogue.specs.declared.Link.{Link}
 use Rattle.routing.specs.Searching.{row_of}
 use Rattle.cards.specs.declared.Card.{Card}
-use Rattle.cards.specs.Books.{Network, Book, with_links, with_cards, with_card}
+use Rattle.cards.specs.Books.{Book, with_cards, with_card}
 use Rattle.cards.proofs.Rows.{row_length}
 use Rattle.book.specs.declared.QuoteBook.{QuoteBook}
-use Rattle.book.specs.Stores.{row_width, network_of, book_of}
-
-abbrev placed : {V : Type 0} → ℕ → List (Option (Link V)) → Network V
-placed s links = record { sites = s; links = links }
-
--- a catalogue whose links alone are others
-pub same_network : {V : Type 0} (c c' : Catalogue V) {links : List (Option (Link V))} → c'.sites ≡ c.sites → c'.links.now ≡ links → network_of c' ≡ with_links (network_of c) links
-same_network {V} c c' sites is = ap (λ (s : ℕ). placed s c'.links.now) sites ∙ ap (λ (ls : List (Option (Link V))). placed c.sites ls) is
+use Rattle.book.specs.Stores.{row_width, book_of}
 
 module _ {V L : Type 0} where
   abbrev sized : ℕ → List (Option (Card V L)) → List ℕ → Book V L

@@ -1,6 +1,6 @@
 -- What the answer of a check says of the causes that it looked at.
-use Rattle.std.proofs.Common.{◌≡◌, ℕ, ◌<◌, Bool, true, false, List, [], ◌∷◌, ◌++◌, length, is_some, Some, None, Ok, Err, Option, Result, refl, ap, ◌∙◌, arith}
-use Rattle.std.proofs.lemmas.Bool.{both_ways, not-false, leb-false}
+use Rattle.std.proofs.Common.{◌≡◌, ℕ, Bool, true, false, List, [], ◌∷◌, ◌++◌, is_some, Some, None, Ok, Err, Option, Result, refl, ap, ◌∙◌, arith}
+use Rattle.std.proofs.lemmas.Bool.{both_ways, not-false}
 use Rattle.report.specs.declared.Refusal.{Refusal}
 use Rattle.report.specs.Refusals.{topmost, unless, filled_or}
 use Rattle.catalogue.specs.declared.Link.{Link}
@@ -65,6 +65,3 @@ remove_some links place e = not-false _ (cleared (remove_causes links place) e).
 
 pub card_some : {V L : Type 0} (b : Book V L) (card : ℕ) → topmost (discard_causes b card) ≡ None → is_some (at b.cards card) ≡ true
 card_some b card e = not-false _ (cleared (discard_causes b card) e).1.0
-
-pub card_inside : {V L : Type 0} (b : Book V L) (card : ℕ) → topmost (discard_causes b card) ≡ None → card < length b.cards
-card_inside b card e = leb-false _ _ (cleared (discard_causes b card) e).0

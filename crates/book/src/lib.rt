@@ -20,7 +20,7 @@ mod answers;
 mod entries;
 mod marking;
 
-// The calls are functions, as those on both a catalogue and a quote book are: all seven are called in one form.
+// The calls are functions, and not methods, by a rule of the project: most are of a catalogue and a quote book together.
 pub use answers::{check_sites, quote, recheck};
 pub use entries::{discard, read};
 pub use marking::spread;
@@ -94,22 +94,9 @@ fn clear_row(rows: &mut [u16], start: usize, width: usize)
     rows[start..start + width].fill(0);
 }
 
-fn emptied_book<'a, M: Measure>(
-    cards: &'a mut [Option<Card<M, M::Limit>>],
-    rows: &'a mut [u16],
-    sites: usize,
-) -> QuoteBook<'a, M, M::Limit>
-    ensures book { book_of result ≡ opened_book (row_width sites (length cards.old) (length rows.old)) (length cards.old) rows.old }
-    ensures begins { Begins M.Measure.kind sites (length cards.old) (length rows.old) (book_of result) }
-    ensures same_cards { result.cards.ghost_name ≡ cards.entry.ghost_name }
-    ensures same_rows { result.rows.ghost_name ≡ rows.entry.ghost_name }
-{
-    empty_all(cards);
-    QuoteBook { cards, rows, sites }
-}
-
 impl<'a, M: Measure> QuoteBook<'a, M, M::Limit> {
     // Empties every card place and leaves the rows. The size is for `check_book_size` to refuse beforehand; this cannot refuse.
+    #[tactic(auto, using(crate::proofs::Beginning::begins))]
     pub fn open(
         cards: &'a mut [Option<Card<M, M::Limit>>],
         rows: &'a mut [u16],
@@ -120,7 +107,8 @@ impl<'a, M: Measure> QuoteBook<'a, M, M::Limit> {
         ensures same_cards { result.cards.ghost_name ≡ cards.entry.ghost_name }
         ensures same_rows { result.rows.ghost_name ≡ rows.entry.ghost_name }
     {
-        emptied_book(cards, rows, sites)
+        empty_all(cards);
+        QuoteBook { cards, rows, sites }
     }
 }
 

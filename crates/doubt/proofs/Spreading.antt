@@ -1,21 +1,11 @@
 -- News goes from card to card.
-use Rattle.std.proofs.Common.{◌≡◌, ℕ, zero, suc, ◌+◌, ◌<◌, ◌≤◌, Bool, true, false, cond, List, length, set, Some, None, Option, sym, refl, ap, ◌∙◌, subst, ⊎_elim, add-one, arith, length-set, get_or-set_other, get_or-set_same}
+use Rattle.std.proofs.Common.{◌≡◌, ℕ, zero, suc, ◌+◌, ◌<◌, ◌≤◌, Bool, true, false, cond, List, length, set, None, Option, sym, refl, ap, ◌∙◌, subst, ⊎_elim, add-one, arith, length-set, get_or-set_other, get_or-set_same}
 use Rattle.std.proofs.lemmas.Bool.{cases_eq, cases_lt}
 use Rattle.std.proofs.lemmas.List.{get_or_past}
 use Rattle.catalogue.specs.Places.{at}
 use Rattle.cards.specs.declared.Card.{Card}
 use Rattle.cards.specs.Books.{Book}
-use Rattle.cards.specs.Doubts.{Rule, event_of, lapsed, fell, tally, strikes, Doubted}
-use Rattle.doubt.specs.News.{struck_in, after, falls}
-
--- what becomes of a card place is told by whether its card is struck
-pub lapsed_so : {V L : Type 0} (rule : Rule V L) (b : Book V L) (c : ℕ) (place : Option (Card V L)) → after (event_of (struck_in rule b c place)) place ≡ lapsed (strikes rule b c) place
-lapsed_so rule b c None = refl
-lapsed_so rule b c (Some card) = refl
-
-pub fell_so : {V L : Type 0} (rule : Rule V L) (b : Book V L) (c : ℕ) (place : Option (Card V L)) → falls (event_of (struck_in rule b c place)) place ≡ fell (strikes rule b c) place
-fell_so rule b c None = refl
-fell_so rule b c (Some card) = refl
+use Rattle.cards.specs.Doubts.{Rule, lapsed, fell, tally, strikes, Doubted}
 
 tally_below : (test : ℕ → Bool) (n : ℕ) → tally test n ≤ n
 tally_below test zero = omega arith
