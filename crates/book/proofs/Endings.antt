@@ -22,7 +22,7 @@ use Rattle.book.proofs.Answering.{quoted_so, rechecked_so, recheck_why, rechecks
 use Rattle.book.proofs.Refusing.{first_refused, first_passed, unless_tells, filled_refused, filled_passed, card_some, topmost_first, topmost_then}
 
 -- what the checks answer: of the sites, of a quote, of a recheck, and of the card
-abbrev sites_answer : {V L : Type 0} → Network V → Book V L → Result (Unit {0}) Refusal
+abbrev pub sites_answer : {V L : Type 0} → Network V → Book V L → Result (Unit {0}) Refusal
 sites_answer n b = unless (topmost (differ n b ∷ [])) (Ok tt)
 
 abbrev quote_answer : {V L : Type 0} → Kind V L → Network V → Book V L → ℕ → ℕ → Ask L → ℕ → Result (Unit {0}) Refusal

@@ -3,10 +3,6 @@ use Rattle.std.proofs.Common.{◌≡◌, ℕ, ◌-◌, min, List, length, take, 
 use Rattle.std.proofs.lemmas.List.{take_all, drop_all, take_rest}
 use Rattle.std.proofs.lemmas.Bool.{cases_lt}
 
-pub take_min : (n r : ℕ) (xs : List ℕ) → r ≡ min n (length xs) → take (r - 0) xs ≡ take n xs
-take_min n r xs e =
-    ⊎_elim (λ lt. ap (λ k. take k xs) (omega arith)) (λ le. take_all (r - 0) xs (omega arith) ∙ sym (take_all n xs le)) (cases_lt n (length xs))
-
 pub drop_min : (n r : ℕ) (xs : List ℕ) → r ≡ min n (length xs) → take (length xs - r) (drop r xs) ≡ drop n xs
 drop_min n r xs e =
     take_rest xs r ∙ ⊎_elim (λ lt. ap (λ k. drop k xs) (omega arith)) (λ le. drop_all r xs (omega arith) ∙ sym (drop_all n xs le)) (cases_lt n (length xs))

@@ -1,10 +1,10 @@
 -- What the parts of the calls leave.
-use Rattle.std.specs.Prelude.{◌≡◌, ℕ, ◌≤◌, Bool, List, [], ◌∷◌, length, Some, Ok, Err, Option, Result, ◌*◌, slice_set}
+use Rattle.std.specs.Prelude.{◌≡◌, ℕ, ◌≤◌, List, [], length, Some, Ok, Err, Option, Result, ◌*◌, slice_set}
 use Rattle.std.proofs.Math.Seq.{paste}
 use Rattle.measure.specs.Kind.{Kind}
 use Rattle.report.specs.declared.Mark.{Mark}
 use Rattle.report.specs.declared.Refusal.{Refusal}
-use Rattle.report.specs.declared.Refusal.TheVariants.{NoSuchSite, LimitNotAdmitted, LabelsFull}
+use Rattle.report.specs.declared.Refusal.TheVariants.{LabelsFull}
 use Rattle.catalogue.specs.declared.Link.{Link}
 use Rattle.routing.specs.declared.Ask.{Ask}
 use Rattle.routing.specs.declared.Route.{Route}
@@ -12,13 +12,9 @@ use Rattle.routing.specs.Searching.{row_of}
 use Rattle.cards.specs.declared.Card.{Card}
 use Rattle.cards.specs.Books.{Network, Book, with_cards, with_card}
 use Rattle.cards.specs.Doubts.{Doubted}
-use Rattle.cards.specs.Calls.{ends_out, limit_out, Found, Overfull}
+use Rattle.cards.specs.Calls.{Found, Overfull}
 use Rattle.doubt.specs.declared.News.{News}
 use Rattle.doubt.specs.News.{rule_of}
-
--- why what is asked is refused, of a quote and of a recheck
-abbrev pub ask_causes : {V L : Type 0} → Kind V L → Network V → Ask L → List (Bool × Refusal)
-ask_causes K n ask = (ends_out n ask, NoSuchSite) ∷ (limit_out K ask, LimitNotAdmitted) ∷ []
 
 -- a catalogue of so many sites that holds these links
 abbrev pub network_with : {V : Type 0} → ℕ → List (Option (Link V)) → Network V

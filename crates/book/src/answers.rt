@@ -1,4 +1,4 @@
-//! The calls that look for a card's best route.
+//! The calls that look for a card's best route. The caller lends the labels to each call, so that they and k are parameters beside what is asked.
 ghost use Rattle.std.specs.Prelude.{◌≡◌, ◌+◌, ◌<◌, ◌≤◌, [], ◌∷◌, length, drop, None, Ok};
 ghost use Rattle.report.specs.declared.Refusal.TheVariants.{CardEmpty};
 ghost use Rattle.report.specs.Refusals.{topmost, unless, filled_or};
@@ -6,7 +6,7 @@ ghost use Rattle.catalogue.specs.Places.{at};
 ghost use Rattle.routing.specs.Searching.{route_causes};
 ghost use Rattle.cards.specs.Calls.{Emptied, differ, quote_causes, recheck_causes, Quoted, Rechecked};
 ghost use Rattle.book.specs.Stores.{network_of, book_of, SamePlaces};
-ghost use Rattle.book.specs.Answers.{ask_causes, network_with, RowAnswer, CardAnswer};
+ghost use Rattle.book.specs.Answers.{network_with, RowAnswer, CardAnswer};
 
 use crate::entries::filled;
 use crate::{QuoteBook, write_place};
@@ -16,7 +16,7 @@ use doubt::next_mark;
 use labels::Label;
 use measure::Measure;
 use report::{Mark, Refusal};
-use routing::{Ask, Route, find_route, is_ill_sized};
+use routing::{Ask, Route, check_ask, find_route, is_ill_sized};
 
 // Whether the quote book is for as many sites as the catalogue has.
 pub fn check_sites<M: Measure>(
@@ -32,20 +32,6 @@ pub fn check_sites<M: Measure>(
     }
 }
 
-// Whether what is asked has both its ends in the catalogue, and an admitted limit.
-fn check_ask<M: Measure>(catalogue: &Catalogue<'_, M>, ask: Ask<M::Limit>) -> Result<(), Refusal>
-    ensures { result ≡ unless (topmost (ask_causes M.Measure.kind (network_of catalogue.now) ask)) (Ok tt) }
-{
-    let sites = catalogue.sites();
-    if ask.source as usize >= sites || ask.destination as usize >= sites {
-        return Err(Refusal::NoSuchSite);
-    }
-    if !M::limit_admitted(ask.limit) {
-        return Err(Refusal::LimitNotAdmitted);
-    }
-    Ok(())
-}
-
 // Why a quote is refused before it begins, the number of sites aside, or that it is not.
 fn check_quote<M: Measure>(
     catalogue: &Catalogue<'_, M>,
@@ -58,7 +44,7 @@ fn check_quote<M: Measure>(
     ensures { result ≡ unless (topmost (drop 1 (quote_causes M.Measure.kind (network_of catalogue.now) (book_of book.now) room card ask k))) (Ok tt) }
 {
     let place = *book.cards.get(card).ok_or(Refusal::NoSuchCard)?;
-    check_ask(catalogue, ask)?;
+    check_ask::<M>(catalogue.sites(), ask)?;
     if place.is_some() {
         return Err(Refusal::CardFilled);
     }
@@ -79,7 +65,7 @@ fn check_recheck<M: Measure>(
     ensures { result ≡ unless (topmost (drop 1 (recheck_causes M.Measure.kind (network_of catalogue.now) (book_of book.now) room card k))) (filled_or CardEmpty (at book.now.cards.now card)) }
 {
     let it = filled(book, card)?;
-    check_ask(catalogue, it.ask)?;
+    check_ask::<M>(catalogue.sites(), it.ask)?;
     if is_ill_sized(catalogue.sites(), room, k) {
         return Err(Refusal::WorkspaceSize);
     }

@@ -70,7 +70,7 @@ pub fn read_place<T: Copy>(places: &[Option<T>], place: usize) -> Option<T>
     places.get(place).copied().flatten()
 }
 
-// The three below look the place up before they write, as `get_mut` says nothing of what a write through it leaves in the slice.
+// The three below are what the methods pass their lent slice on to. They look the place up before they write, as `get_mut` says nothing of what a write through it leaves in the slice.
 fn store_at<M: Measure>(
     links: &mut [Option<Link<M>>],
     sites: usize,

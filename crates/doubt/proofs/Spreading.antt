@@ -23,9 +23,6 @@ module _ {V L : Type 0} (rule : Rule V L) (b : Book V L) where
     pub rest : (c : ℕ) → i ≤ c → at cards c ≡ at b.cards c
     pub total : count ≡ tally (λ c. fell (strikes rule b c) (at b.cards c)) i
 
-  pub partly_none : Partly b.cards 0 0
-  partly_none = record { places = refl; done = λ c lt. absurd (omega arith); rest = λ c le. refl; total = refl }
-
   pub partly_more : (cards : List (Option (Card V L))) (i count : ℕ) (fallen : Bool) (count' : ℕ) → i < length cards →
       fallen ≡ fell (strikes rule b i) (at cards i) → count' ≡ count + cond fallen 1 0 →
       Partly cards i count → Partly (set cards i (lapsed (strikes rule b i) (at cards i))) (i + 1) count'

@@ -13,7 +13,7 @@ use report::Mark;
 use routing::Route;
 
 // What happened to the catalogue's links.
-#[derive(Clone, Copy)]
+#[derive(Clone, Copy, PartialEq, Eq, Debug)]
 pub enum News<M> {
     // A link of this value is new.
     Offered { value: M },
@@ -62,7 +62,7 @@ pub fn leg_count<M: Copy>(answer: Option<Route<M>>) -> usize
     answer.map_or(0, |route| route.legs)
 }
 
-// Whether the news strikes this card of the place.
+// Whether the news strikes this card of the place: a rule for each sort of news, taken apart case by case.
 fn strikes<M: Measure, B: Cards<M, M::Limit>>(
     book: &B,
     place: usize,

@@ -22,7 +22,7 @@ fn join<const A: usize, const B: usize, const N: usize>(first: [u8; A], second: 
     bytes
 }
 
-// The bytes of the measures, in their order.
+// The bytes of the measures, in their order. `Measures` is of a crate without code, so that no `From` can stand there.
 fn measures_to_bytes(measures: Measures) -> [u8; 12]
     ensures { result ≡ measures_bytes measures }
 {
@@ -30,7 +30,7 @@ fn measures_to_bytes(measures: Measures) -> [u8; 12]
     join(measures.delay.to_be_bytes(), price_and_class)
 }
 
-// The bytes of a kind with one number.
+// The bytes of a kind with one number. This and the two below are the three layouts that records have, of three lengths.
 fn short_bytes(kind: u8, number: u16) -> [u8; 3]
     ensures { result ≡ kind ∷ bytes16 number }
 {
@@ -54,7 +54,7 @@ fn long_bytes(kind: u8, first: u16, second: u16, third: u16, measures: Measures)
     join(numbers, measures_to_bytes(measures))
 }
 
-// Copies the bytes into the buffer from the start place on, and returns the place after them; a buffer that is too short stays as it was.
+// Copies the bytes into the lent buffer from the caller's start place on, and returns the place after them; a buffer that is too short stays as it was.
 pub fn put_bytes(bytes: &[u8], buffer: &mut [u8], start: usize) -> Result<usize, Refusal>
     ensures { Put bytes.now start buffer.old buffer.new result }
 {
@@ -67,7 +67,7 @@ pub fn put_bytes(bytes: &[u8], buffer: &mut [u8], start: usize) -> Result<usize,
     }
 }
 
-// Writes the record, kind by kind, from the place on. That its numbers fit their widths, as the types say, is what makes it read back.
+// Writes the record, kind by kind, from the place on: the byte of each kind stands in its arm. That its numbers fit their widths, as the types say, is what makes it read back.
 fn put_record(record: Record, buffer: &mut [u8], place: usize) -> Result<usize, Refusal>
     ensures put { Put (encode «record») place buffer.old buffer.new result }
     ensures fit { Fit «record» }

@@ -19,7 +19,7 @@ pub use encoding::{put_bytes, write_record};
 pub use records::{Measures, Reading, Record};
 use report::Refusal;
 
-// The measures from the four bytes of each.
+// The measures from the four bytes of each. `Measures` is of a crate without code, so that no `From` can stand there.
 fn measures_from_bytes(delay: [u8; 4], price: [u8; 4], class: [u8; 4]) -> Measures
     ensures { result ≡ record { delay = number32 delay 0; price = number32 price 0; class = number32 class 0 } }
 {
@@ -258,7 +258,8 @@ pub struct Records<'a> {
 }
 
 impl<'a> Records<'a> {
-    // Reads the record at the start place, and goes on to where it ends.
+    // Reads the record at the start place, and goes on to where it ends. `next` is this and no more, so that an edit of it is refused in the
+    // code; the start place is kept beside the feed, since a refusal names its place there.
     fn read(&mut self) -> Option<Result<Record, Refusal>>
         ensures { YieldsFirst unread self.old result self.new }
     {

@@ -30,10 +30,6 @@ site_room sites k s lt =
     let y : suc s * k ≡ s * k + k = suc-mul s k in
     omega arith
 
--- those of the site that a link leads to
-pub room_there : {V L : Type 0} {K : Kind V L} {l : L} {sites : ℕ} {cat : List (Option (Link V))} {A : ℕ → Label V} {h site i t : ℕ} {n : V} (xs : List (Label V)) (k : ℕ) → Sound K sites cat → length xs ≡ sites * k → Offered K l cat A h site i t n → t * k + k ≤ length xs
-room_there xs k sound size offer = rw size (site_room _ k _ (sound.each _ _ _ _ offer.leads).end_in)
-
 module _ {V L : Type 0} {K : Kind V L} (l : L) (cat : List (Option (Link V))) (k src dst : ℕ) (A : ℕ → Label V) (h site i : ℕ) (opens : Opens K l cat k src dst A h site i) where
   -- extended by every link
   pub opens_rests : length cat ≤ i → Rests K l cat k src dst A

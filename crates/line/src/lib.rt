@@ -15,7 +15,8 @@ use measure::Ratio;
 use measure::pair::Trunk;
 use report::{Mark, Refusal, Returned};
 
-// What is printed of a record. A route's legs are passed beside it.
+// What is printed of a record. A route's legs are passed beside it. Four sorts of lines, and no `Result`: a refusal is a line like the
+// others, and no error of printing.
 #[derive(Clone, Copy, PartialEq, Eq, Debug)]
 pub enum Reply {
     // It was carried out, and returned this count.
@@ -34,6 +35,7 @@ pub enum Reply {
     Refused(Refusal),
 }
 
+// A mark's word, as bytes: by `Display` it could only be printed through `fmt`.
 fn mark_text(mark: Mark) -> &'static [u8]
     ensures { result.now ≡ mark_word mark }
 {

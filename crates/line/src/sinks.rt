@@ -33,7 +33,8 @@ impl Sink for End {
     }
 }
 
-// Writes from a place of the buffer on. What has no room there is left out.
+// Writes from a place of the buffer on, which is the caller's start place at first. What has no room there is left out. It writes by
+// index, as `get_mut` says nothing of what a write through it leaves in the slice.
 #[derive(Drop)]
 pub(crate) struct Writer<'a> {
     pub(crate) buffer: &'a mut [u8],

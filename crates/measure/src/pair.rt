@@ -73,7 +73,7 @@ pub type TrunkLimit = Pair<Pair<u32, u32>, u32>;
 // The loop catalogue's kind: delay alone.
 pub type Loop = Sum;
 
-// The parameters name the three numbers. A `From` of three numbers in a row would leave their order to be remembered.
+// A function, as `trunk_limits` is: a `From` would need a type that names the three numbers, and the one of a record is of a crate above.
 pub fn trunk_value(delay: u32, price: u32, class: u32) -> Trunk
     ensures { result ≡ trunk delay price class }
 {

@@ -13,11 +13,8 @@ use Rattle.cards.specs.Doubts.{Doubted, struck_by_change}
 use Rattle.cards.specs.Calls.{differ, Offered, offer_refused, offered, Changed, change_refused, changed, Withdrawn, withdraw_refused, withdrawn}
 use Rattle.doubt.specs.declared.News.TheVariants as News
 use Rattle.book.specs.Answers.{Spread}
+use Rattle.book.proofs.Endings.{sites_answer}
 use Rattle.book.proofs.Refusing.{first_refused, first_passed, unless_tells, filled_refused, filled_passed, replace_some, remove_some}
-
--- what the check of the sites answers
-abbrev sites_answer : {V L : Type 0} → Network V → Book V L → Result (Unit {0}) Refusal
-sites_answer n b = unless (topmost (differ n b ∷ [])) (Ok tt)
 
 -- the value of the link that a change of the catalogue answers
 pub value_in : {V : Type 0} → Result (Link V) Refusal → V → V

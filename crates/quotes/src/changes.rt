@@ -1,4 +1,5 @@
-//! The calls that change the catalogue's links, and put cards in doubt.
+//! The calls that change the catalogue's links, and put cards in doubt. They are functions of catalogue and quote book together, since
+//! neither owns the other.
 ghost use Rattle.cards.specs.Calls.{Offered, Changed, Withdrawn};
 ghost use Rattle.book.specs.Stores.{network_of, book_of, SameLinks, SamePlaces};
 

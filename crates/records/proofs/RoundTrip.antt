@@ -15,12 +15,8 @@ use Rattle.records.specs.RoundTrip.{ReadsBack, WritesBack, ReadsPart}
 use Rattle.records.proofs.Readings.{reads_record, reads_placed, reads_within, reads_ahead}
 
 -- a number from its bytes
-
 back16 : (n : ℕ) → n < 2 ^ 16 → n ≡ number16 (bytes16 n) 0
 back16 n h = sym (from_be_bytes-to_be_bytes_2 n h)
-
-back32 : (n : ℕ) → n < 2 ^ 32 → n ≡ number32 (bytes32 n) 0
-back32 n h = sym (from_be_bytes-to_be_bytes_4 n h)
 
 measures_back : (m : Measures) → FitMeasures m → m ≡ measures_at (measures_bytes m) 0
 measures_back m f = grind (arith, common_steps)

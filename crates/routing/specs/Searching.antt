@@ -16,6 +16,11 @@ use Rattle.routing.specs.declared.Route.{Route}
 abbrev pub ill_sized : ℕ → ℕ → ℕ → Bool
 ill_sized sites room k = not (room == sites * k) || (nat_lt k 1 || nat_lt 64 k)
 
+-- why what is asked is refused: an end is no site, or the limit is not admitted
+abbrev pub ask_causes : {V L : Type 0} → Kind V L → ℕ → Ask L → List (Bool × Refusal)
+ask_causes K sites ask =
+    (nat_le sites ask.source || nat_le sites ask.destination, NoSuchSite) ∷ (not (K.limit_admitted ask.limit), LimitNotAdmitted) ∷ []
+
 -- why a call is refused before it begins: an end is no site, the limit is not admitted, the workspace is not k labels a site with k from
 -- 1 to 64, or the row has fewer numbers than there are sites
 abbrev pub route_causes : {V L : Type 0} → Kind V L → ℕ → ℕ → ℕ → Ask L → ℕ → List (Bool × Refusal)

@@ -75,7 +75,7 @@ impl<M: Measure, N: Links<M>> Exploration<'_, M, N> {
         }
     }
 
-    // Extends the label at `h`, which stands at `site`, by every link from there.
+    // Extends the label at `h`, which stands at `site`, by every link from there. A network answers by place.
     fn extend(&self, labels: &mut [Label<M>], h: usize, site: usize) -> Result<(), Refusal>
         requires size { length labels.old ≡ N.Links.span self.now.network.now * self.now.k }
         requires opens { Opens M.Measure.kind self.now.limit (N.Links.links self.now.network.now) self.now.k self.now.source self.now.destination (table M.Measure.kind labels.old) h site 0 }
@@ -101,7 +101,7 @@ impl<M: Measure, N: Links<M>> Exploration<'_, M, N> {
         Ok(())
     }
 
-    // The place of the first walk's label, or none where no walk is within the limit.
+    // The place of the first walk's label, or none where no walk is within the limit. It takes from a queue that it fills.
     pub(crate) fn explore(&self, labels: &mut [Label<M>]) -> Result<Option<usize>, Refusal>
         requires { length labels.old ≡ N.Links.span self.now.network.now * self.now.k }
         ensures { EndsSo M.Measure.kind self.now.limit (N.Links.links self.now.network.now) self.now.k self.now.source self.now.destination (table M.Measure.kind labels.new) result }

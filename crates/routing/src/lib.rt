@@ -7,7 +7,7 @@ ghost use Rattle.catalogue.specs.Routes.{Sound};
 ghost use Rattle.labels.specs.Labels.{blank};
 ghost use Rattle.routing.specs.Finds.{sound_link, sound_at, Admits};
 ghost use Rattle.catalogue.specs.Places.{at as place_at};
-ghost use Rattle.routing.specs.Searching.{ill_sized, route_causes, Answered, Searched};
+ghost use Rattle.routing.specs.Searching.{ill_sized, ask_causes, route_causes, Answered, Searched};
 
 use catalogue::{Link, Links};
 use exploration::Exploration;
@@ -35,7 +35,7 @@ pub struct Route<M> {
     pub ratio: Ratio,
 }
 
-// A label at a free place, to make a workspace of.
+// A label at a free place, to make a workspace of. No `Default`: the crate of labels has no code, and a value is empty by its kind.
 pub fn free_label<M: Measure>() -> Label<M>
     ensures { result ≡ blank M.Measure.kind }
 {
@@ -47,7 +47,7 @@ pub fn free_label<M: Measure>() -> Label<M>
     }
 }
 
-// Whether the link may stand in a catalogue of so many sites.
+// Whether the link may stand in a catalogue of so many sites: what an offer asks of it too, where the first that fails is told.
 fn is_sound_link<M: Measure>(sites: usize, link: Link<M>) -> bool
     ensures { result ≡ sound_link M.Measure.kind sites link }
 {
@@ -84,6 +84,19 @@ pub fn is_ill_sized(sites: usize, room: usize, k: usize) -> bool
     !(1..=64).contains(&k) || sites.checked_mul(k) != Some(room)
 }
 
+// Whether what is asked has both its ends among so many sites, and an admitted limit.
+pub fn check_ask<M: Measure>(sites: usize, ask: Ask<M::Limit>) -> Result<(), Refusal>
+    ensures { result ≡ unless (topmost (ask_causes M.Measure.kind sites ask)) (Ok tt) }
+{
+    if ask.source as usize >= sites || ask.destination as usize >= sites {
+        return Err(Refusal::NoSuchSite);
+    }
+    if !M::limit_admitted(ask.limit) {
+        return Err(Refusal::LimitNotAdmitted);
+    }
+    Ok(())
+}
+
 // Why the call is refused before it begins, or that it is not.
 fn check<M: Measure>(
     sites: usize,
@@ -94,12 +107,7 @@ fn check<M: Measure>(
 ) -> Result<(), Refusal>
     ensures { result ≡ unless (topmost (route_causes M.Measure.kind sites room k ask row)) (Ok tt) }
 {
-    if ask.source as usize >= sites || ask.destination as usize >= sites {
-        return Err(Refusal::NoSuchSite);
-    }
-    if !M::limit_admitted(ask.limit) {
-        return Err(Refusal::LimitNotAdmitted);
-    }
+    check_ask::<M>(sites, ask)?;
     if is_ill_sized(sites, room, k) {
         return Err(Refusal::WorkspaceSize);
     }
@@ -141,7 +149,8 @@ fn find<M: Measure, N: Links<M>>(
     Ok(Some(Route { legs, value, ratio }))
 }
 
-// Checks the call, routes, and frees the labels that were lent.
+// Checks the call, routes, and frees the labels that were lent: the body of `find_route`, with answers of its own, so that an edit of
+// `find_route` is refused in the code.
 fn find_and_free<M: Measure, N: Links<M>>(
     network: &N,
     labels: &mut [Label<M>],

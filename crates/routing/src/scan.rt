@@ -22,7 +22,7 @@ fn leads<M: Measure>(
         && leader.is_none_or(|b| ranks_before(label.value, labels[b].value, limit))
 }
 
-// The queued label of first rank.
+// The queued label of first rank. The leader so far is a place, since a `reduce` would compare labels and lose where they stand.
 pub(crate) fn first_queued<M: Measure>(labels: &[Label<M>], limit: M::Limit) -> Option<usize>
     requires admitted { M.Measure.kind.limit_admitted limit ≡ true }
     requires fits { Fits M.Measure.kind limit (table M.Measure.kind labels.now) }

@@ -13,6 +13,7 @@ use routing::free_label;
 use std::io;
 use std::io::{Read, Write};
 
+// The program's memory: arrays by repetition, which are lent to the library. Their sizes are written out.
 const SITES: usize = 16;
 
 const PLACES: usize = 32;
@@ -31,7 +32,8 @@ const WORKSPACE: usize = 128;
 // How much of the input is read.
 const INPUT: usize = 65536;
 
-// Fills the buffer from the reader, to the buffer's end or the reader's, and answers how many bytes came.
+// Fills the buffer from the reader, to the buffer's end or the reader's, and answers how many bytes came: std's calls that read on fill a
+// `Vec`, or fail where the reader ends before the buffer.
 pub fn read_input<R: Read>(input: &mut R, buffer: &mut [u8]) -> io::Result<usize>
     ensures { IfOk result (Fills (R.Read.remaining input.old) (R.Read.remaining input.new) buffer.new) }
 {

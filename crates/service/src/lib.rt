@@ -32,6 +32,7 @@ pub enum ServiceError {
     Io(io::Error),
 }
 
+// Both conversions are written out, since a derived one promises nothing, and contracts say which error came.
 impl From<Refusal> for ServiceError {
     ghost from_gives = { λ why e. e ≡ ServiceErrors.Refused why };
 
@@ -48,6 +49,7 @@ impl From<io::Error> for ServiceError {
     }
 }
 
+// The four conversions here are functions: neither type is of this crate, so that no `From` can stand here.
 fn value(measures: Measures) -> Trunk
     ensures { result ≡ value_of measures }
 {
@@ -60,7 +62,7 @@ fn limit(limits: Measures) -> TrunkLimit
     trunk_limits(limits.delay, limits.price, limits.class)
 }
 
-// The call that a record asks for. Routing holds k walks a site; a reading copies the legs from the reply's first place on.
+// The call that a record asks for, kind by kind. Routing holds k walks a site; a reading copies the legs from the reply's first place on.
 pub fn call_of(record: Record, k: usize) -> Call<Trunk, TrunkLimit>
     ensures { result ≡ call_of «record» k }
 {
