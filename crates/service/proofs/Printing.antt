@@ -14,6 +14,8 @@ use Rattle.service.specs.Feeds.{line_for, PrintsLine, ServesNext, Unreadable, Se
 -- a service is the same after two steps
 pub same_again : {s s' s'' : Service} → SameService s s' → SameService s' s'' → SameService s s''
 same_again p q = record {
+  catalogue = q.catalogue ∙ p.catalogue;
+  book = q.book ∙ p.book;
   links = q.links ∙ p.links;
   places = (q.places.0 ∙ p.places.0, q.places.1 ∙ p.places.1);
   labels = q.labels ∙ p.labels;

@@ -10,7 +10,7 @@ use Rattle.service.specs.declared.serving.Service.{Service}
 
 -- what the catalogue and the quote book hold
 abbrev pub memory_in : Service → Memory TrunkValue TrunkLimits
-memory_in s = memory_of s.catalogue s.book
+memory_in s = memory_of s.catalogue.now s.book.now
 
 -- what is lent to a call
 abbrev pub lent_by : Service → Lent TrunkValue
@@ -41,8 +41,10 @@ Performed s call reply s' = Outcome trunk_kind (memory_in s) (lent_by s) call re
 
 -- a service has the same memory as before, whatever it holds, and lends as much of it
 pub record SameService (s s' : Service) : Type 0 where
-  pub links : SameLinks s.catalogue s'.catalogue
-  pub places : SamePlaces s.book s'.book
+  pub catalogue : s'.catalogue.ghost_name ≡ s.catalogue.ghost_name
+  pub book : s'.book.ghost_name ≡ s.book.ghost_name
+  pub links : SameLinks s.catalogue.now s'.catalogue.now
+  pub places : SamePlaces s.book.now s'.book.now
   pub labels : s'.labels.ghost_name ≡ s.labels.ghost_name
   pub reply : s'.reply.ghost_name ≡ s.reply.ghost_name
   pub room : room_in s' ≡ room_in s

@@ -42,7 +42,7 @@ fn numbered(feed: &[u8]) -> Zip<RangeFrom<usize>, Records<'_>>
     (1..).zip(read_records(feed))
 }
 
-impl Service<'_> {
+impl Service<'_, '_> {
     // Serves one record, and writes its line: the legs that it prints are the first numbers of the reply.
     pub fn serve_record<W: Write>(
         &mut self,

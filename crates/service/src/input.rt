@@ -1,11 +1,11 @@
 //! The trunk product's program: the input is read as a feed and served from its first record to its last.
-ghost use Rattle.std.specs.Prelude.{◌≡◌, replicate, IfOk};
+ghost use Rattle.std.specs.Prelude.{◌≡◌, IfOk};
 ghost use Rattle.service.specs.Services.{memory_in, room_in};
-ghost use Rattle.service.specs.Input.{opened_day, day_room, Fills, PrintsInput};
+ghost use Rattle.book.specs.Stores.{memory_of};
+ghost use Rattle.service.specs.Input.{day_room, Fills, PrintsInput};
 
 use crate::{Service, ServiceError};
-use cards::Card;
-use catalogue::{Catalogue, Link, check_size};
+use catalogue::{Catalogue, check_size};
 use labels::Label;
 use measure::pair::{Trunk, TrunkLimit};
 use quotes::{QuoteBook, check_book_size};
@@ -48,22 +48,19 @@ pub fn read_input<R: Read>(input: &mut R, buffer: &mut [u8]) -> io::Result<usize
     Ok(got)
 }
 
-// A service over the program's memory, with a catalogue and a quote book just opened.
-#[tactic(auto, using(crate::proofs::Opening::day_opened))]
-fn open_service<'a>(
-    links: &'a mut [Option<Link<Trunk>>; PLACES],
-    cards: &'a mut [Option<Card<Trunk, TrunkLimit>>; CARDS],
-    rows: &'a mut [u16; ROWS],
-    labels: &'a mut [Label<Trunk>; WORKSPACE],
-    reply: &'a mut [u16; SITES],
-) -> Service<'a>
-    requires { rows.old ≡ replicate 128 0 }
-    ensures memory { memory_in result ≡ opened_day }
+// A service over the program's memory: eight labels a site, and a number for each site.
+fn service_over<'s, 'm>(
+    catalogue: &'s mut Catalogue<'m, Trunk>,
+    book: &'s mut QuoteBook<'m, Trunk, TrunkLimit>,
+    labels: &'s mut [Label<Trunk>; WORKSPACE],
+    reply: &'s mut [u16; SITES],
+) -> Service<'s, 'm>
+    ensures memory { memory_in result ≡ memory_of catalogue.old book.old }
     ensures room { room_in result ≡ day_room }
 {
     Service {
-        catalogue: Catalogue::open(links, SITES),
-        book: QuoteBook::open(cards, rows, SITES),
+        catalogue,
+        book,
         labels,
         k: LABELS,
         reply,
@@ -83,7 +80,9 @@ pub fn serve_input<R: Read, W: Write>(input: &mut R, out: &mut W) -> Result<(), 
     let mut reply = [0u16; SITES];
     check_size(SITES, PLACES)?;
     check_book_size(SITES, CARDS, ROWS)?;
-    let mut service = open_service(&mut links, &mut cards, &mut rows, &mut labels, &mut reply);
+    let mut catalogue = Catalogue::open(&mut links, SITES);
+    let mut book = QuoteBook::open(&mut cards, &mut rows, SITES);
+    let mut service = service_over(&mut catalogue, &mut book, &mut labels, &mut reply);
     let got = read_input(input, &mut buffer)?;
     service.serve_feed(out, &buffer[0..got])
 }

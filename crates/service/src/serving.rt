@@ -14,27 +14,21 @@ use records::Record;
 
 // A catalogue and its quote book, and what is lent to each of their calls: labels, k of them a site, and numbers for a route's legs.
 #[derive(Drop)]
-pub struct Service<'a> {
-    pub catalogue: Catalogue<'a, Trunk>,
-    pub book: QuoteBook<'a, Trunk, TrunkLimit>,
-    pub labels: &'a mut [Label<Trunk>],
+pub struct Service<'s, 'm> {
+    pub catalogue: &'s mut Catalogue<'m, Trunk>,
+    pub book: &'s mut QuoteBook<'m, Trunk, TrunkLimit>,
+    pub labels: &'s mut [Label<Trunk>],
     pub k: usize,
-    pub reply: &'a mut [u16],
+    pub reply: &'s mut [u16],
 }
 
-impl Service<'_> {
+impl Service<'_, '_> {
     // Carries out a call with all that can be lent to it.
     fn perform(&mut self, call: Call<Trunk, TrunkLimit>) -> Reply<Trunk>
         ensures outcome { Performed self.old call result self.new }
         ensures same { SameService self.old self.new }
     {
-        perform(
-            &mut self.catalogue,
-            &mut self.book,
-            self.labels,
-            self.reply,
-            call,
-        )
+        perform(self.catalogue, self.book, self.labels, self.reply, call)
     }
 
     // Carries out the record's call. What is answered of a card is what a reading of it gives, so that its legs stand in the reply.
