@@ -72,7 +72,7 @@ fn check_recheck<M: Measure>(
     Ok(it)
 }
 
-// Looks for the best route, and writes its legs to the row that begins at the start place.
+// Looks for the best route, and writes its legs to the row that begins at the start place: rows lie in one slice, by number.
 fn find_in_row<M: Measure, N: Links<M>>(
     network: &N,
     labels: &mut [Label<M>],

@@ -44,7 +44,7 @@ fn is_short(room: usize, start: usize, count: usize) -> bool
     room.checked_sub(start).is_none_or(|left| left < count)
 }
 
-// Copies the numbers into the reply from the start place on.
+// Copies the numbers into the lent reply from the caller's start place on.
 fn copy_into(numbers: &[u16], reply: &mut [u16], start: usize)
     requires { start + length numbers.now ≤ length reply.old }
     ensures { reply.new ≡ paste reply.old start numbers.now (length numbers.now) }

@@ -44,7 +44,8 @@ pub fn check_book_size(sites: usize, cards: usize, rows: usize) -> Result<(), Re
     }
 }
 
-// How many numbers a card's row has: one for each site, and none where the rows are of another size.
+// How many numbers a card's row has: one for each site, and none where the rows are of another size. It is worked out where it is asked,
+// and no field, since a quote book of any size can be made.
 fn row_width(sites: usize, cards: usize, rows: usize) -> usize
     ensures value { result ≡ row_width sites cards rows }
     ensures fits { cards * result ≤ rows }

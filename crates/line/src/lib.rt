@@ -121,7 +121,7 @@ impl Line<'_> {
     }
 }
 
-// Writes the line of the record with this number from the start place on, and returns the place after it.
+// Writes the line of the record with this number into the lent buffer from the caller's start place on, and returns the place after it.
 // The legs are those of a route; the other replies have none, and what is passed is not read.
 // A buffer that is too short is left as it was.
 pub fn write_line(

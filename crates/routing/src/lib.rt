@@ -77,7 +77,8 @@ fn is_sound<M: Measure, N: Links<M>>(network: &N) -> bool
     sites <= 256 && places <= 4096 && (0..places).all(|i| is_sound_at(network, sites, i))
 }
 
-// Whether a workspace of so many labels is not k labels a site, or k is not from 1 to 64.
+// Whether a workspace of so many labels is not k labels a site, or k is not from 1 to 64. A question, which each call asks among causes of
+// its own.
 pub fn is_ill_sized(sites: usize, room: usize, k: usize) -> bool
     ensures { result ≡ ill_sized sites room k }
 {

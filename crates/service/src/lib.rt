@@ -115,7 +115,7 @@ pub fn call_of(record: Record, k: usize) -> Call<Trunk, TrunkLimit>
     }
 }
 
-// The card that is read for printing once a quote or a recheck has answered what it holds.
+// The card that is read for printing once a quote or a recheck has answered what it holds: the two kinds are told from the others.
 fn card_read(record: Record, reply: Reply<Trunk>) -> Option<usize>
     ensures { result ≡ card_read «record» reply }
 {
@@ -134,7 +134,7 @@ fn card_read(record: Record, reply: Reply<Trunk>) -> Option<usize>
     }
 }
 
-// What is printed of a reply, and how many of the reply's numbers are the legs of its route.
+// What is printed of a reply, case by case, and how many of the reply's numbers are the legs of its route.
 pub fn print(reply: Reply<Trunk>) -> (Printed, usize)
     ensures { (result.0 ≡ (printed reply).0) × (result.1 ≡ (printed reply).1) }
 {
