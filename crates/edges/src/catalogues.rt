@@ -3,8 +3,10 @@ use catalogue::walks::{Reached, follow};
 use catalogue::{Catalogue, Link, Links, check_size};
 use measure::scalar::Sum;
 use report::Refusal;
+use std::process::Abort;
 use std::test::Fail;
 
+// Each crate of tests has its own few lines such as these.
 fn link(start: u16, end: u16, value: u32) -> Link<Sum> {
     Link {
         start,
@@ -31,11 +33,37 @@ fn sizes_at_their_ends(rt: HostRuntime) {
     }
 }
 
+// Links stored at the places answer what stands beside them.
+fn check_stores(
+    rt: &impl Abort,
+    catalogue: &mut Catalogue<'_, Sum>,
+    cases: &[(usize, Link<Sum>, Result<(), Refusal>)],
+) {
+    for (place, link, want) in cases.iter().copied() {
+        assert_eq!(rt; catalogue.store(place, link), want, "at {place}");
+    }
+}
+
+// New values at the places answer what stands beside them.
+fn check_values(
+    rt: &impl Abort,
+    catalogue: &mut Catalogue<'_, Sum>,
+    cases: &[(usize, u32, Result<Link<Sum>, Refusal>)],
+) {
+    for (place, number, want) in cases.iter().copied() {
+        assert_eq!(rt;
+            catalogue.replace(place, Sum::new(number)),
+            want,
+            "at {place}"
+        );
+    }
+}
+
 #[test]
 fn places_and_sites_at_their_last(rt: HostRuntime) {
     let mut places = [None; 32];
     let mut catalogue = Catalogue::open(&mut places, 16);
-    for (place, link, want) in [
+    let stores = [
         (31, link(15, 0, 1), Ok(())),
         (32, link(15, 0, 1), Err(Refusal::NoSuchLink)),
         (usize::MAX, link(15, 0, 1), Err(Refusal::NoSuchLink)),
@@ -43,12 +71,13 @@ fn places_and_sites_at_their_last(rt: HostRuntime) {
         (0, link(0, 65535, 1), Err(Refusal::NoSuchSite)),
         (0, link(15, 15, 1), Err(Refusal::EndsMeet)),
         (31, link(0, 1, 1), Err(Refusal::LinkTaken)),
-    ] {
-        assert_eq!(rt; catalogue.store(place, link), want, "at {place}");
-    }
-    for (place, want) in [(31, Ok(link(15, 0, 1))), (32, Err(Refusal::NoSuchLink))] {
-        assert_eq!(rt; catalogue.replace(place, Sum::new(2)), want, "at {place}");
-    }
+    ];
+    check_stores(&rt, &mut catalogue, &stores);
+    let values = [
+        (31, 2, Ok(link(15, 0, 1))),
+        (32, 2, Err(Refusal::NoSuchLink)),
+    ];
+    check_values(&rt, &mut catalogue, &values);
     for (place, want) in [
         (31, Ok(link(15, 0, 2))),
         (31, Err(Refusal::LinkEmpty)),
@@ -62,18 +91,16 @@ fn places_and_sites_at_their_last(rt: HostRuntime) {
 fn values_at_their_last(rt: HostRuntime) {
     let mut places = [None; 2];
     let mut catalogue = Catalogue::open(&mut places, 2);
-    for (link, want) in [
-        (link(0, 1, 2147483647), Ok(())),
-        (link(1, 0, 2147483648), Err(Refusal::ValueNotAdmitted)),
-    ] {
-        assert_eq!(rt; catalogue.store(0, link), want);
-    }
-    for (number, want) in [
-        (2147483648, Refusal::ValueNotAdmitted),
-        (2147483647, Refusal::LinkEmpty),
-    ] {
-        assert_eq!(rt; catalogue.replace(1, Sum::new(number)), Err(want));
-    }
+    let stores = [
+        (0, link(0, 1, 2147483647), Ok(())),
+        (0, link(1, 0, 2147483648), Err(Refusal::ValueNotAdmitted)),
+    ];
+    check_stores(&rt, &mut catalogue, &stores);
+    let values = [
+        (1, 2147483648, Err(Refusal::ValueNotAdmitted)),
+        (1, 2147483647, Err(Refusal::LinkEmpty)),
+    ];
+    check_values(&rt, &mut catalogue, &values);
     for (place, want) in [(0, Some(link(0, 1, 2147483647))), (1, None), (2, None)] {
         assert_eq!(rt; catalogue.link(place), want, "at {place}");
     }

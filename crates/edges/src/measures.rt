@@ -41,13 +41,16 @@ fn measures_past_the_last_are_over(rt: HostRuntime) {
         (LAST + 1, false),
         (u32::MAX, false),
     ] {
-        for value in [
+        let values = [
             trunk_value(number, 0, 0),
             trunk_value(0, number, 0),
             trunk_value(0, 0, number),
-        ] {
-            assert_eq!(rt; value.admitted(), admitted, "at {number}");
-        }
+        ];
+        assert_eq!(rt;
+            values.map(|value| value.admitted()),
+            [admitted; 3],
+            "at {number}"
+        );
     }
     assert_eq!(rt;
         trunk_value(u32::MAX, LAST + 1, u32::MAX),
@@ -75,6 +78,7 @@ fn over_stays_over(rt: HostRuntime) {
     );
 }
 
+// Each crate of tests has its own few lines such as these.
 fn two(a: u32, b: u32) -> Pair<Sum, Sum> {
     Pair {
         first: Sum::new(a),

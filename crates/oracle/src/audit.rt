@@ -46,12 +46,18 @@ impl<M: Kind> Trial<'_, M, M::Limit> {
         Ok(())
     }
 
-    // Compares every link place and every card place, and the one past the last of each.
-    pub(crate) fn audit(&mut self) -> Result<(), Wrong> {
+    // Compares every link place, and the one past the last.
+    fn audit_links(&self) -> Result<(), Wrong> {
         for place in 0..=self.model.links.len() {
             let held = self.catalogue.link(place).map(PlainLink::from);
             ensure(held == self.model.link(place), Wrong::Link(place))?;
         }
+        Ok(())
+    }
+
+    // Compares every link place and every card place, and the one past the last of each.
+    pub(crate) fn audit(&mut self) -> Result<(), Wrong> {
+        self.audit_links()?;
         for card in 0..=self.model.cards.len() {
             self.audit_card(card)?;
         }

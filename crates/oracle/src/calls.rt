@@ -63,6 +63,7 @@ impl<M: Kind> From<Link<M>> for PlainLink {
     }
 }
 
+// Neither type of a mark with an answer is this crate's, so no `From` can stand here.
 fn held<M: Kind>(mark: Mark, answer: Option<Route<M>>) -> PlainAnswer {
     PlainAnswer::Held {
         mark,
@@ -79,6 +80,7 @@ impl<M: Kind> From<Answer<M>> for PlainAnswer {
     }
 }
 
+// Neither type is this crate's alone: a link, a question and a call of the library take the kind along, which a `From` would have to be told.
 fn link_of<M: Kind>(link: PlainLink) -> Link<M> {
     Link {
         start: link.start,

@@ -46,6 +46,7 @@ fn is_struck(card: &PlainCard, news: News) -> bool {
 
 // Takes the standing off the cards that the news strikes, and answers how many there are.
 pub(crate) fn put_in_doubt(cards: &mut [Option<PlainCard>], news: News) -> usize {
+    // marks and counts in one pass
     let mut count = 0usize;
     for card in cards.iter_mut().flatten() {
         if card.mark == Mark::Standing && is_struck(card, news) {

@@ -5,6 +5,7 @@ use crate::random::Random;
 use crate::tally::{Tally, count};
 use feed::{Measures, Reading, Record, read_record, write_record};
 use report::Refusal;
+use std::array;
 
 // How many bytes of a feed are tried.
 const FEED: usize = 24;
@@ -98,6 +99,7 @@ fn try_writing(
     bytes: &[u8],
     tally: &mut Tally,
 ) -> Result<(), Difference> {
+    // an array, as a buffer is lent
     let mut buffer = [UNWRITTEN; BUFFER];
     let room = random.below(BUFFER + 1);
     let place = random.below(BUFFER + 2);
@@ -114,22 +116,19 @@ fn try_writing(
     ensure(is_right, Difference::Writing)
 }
 
-fn random_feed(random: &mut Random) -> [u8; FEED] {
-    let mut bytes = [0u8; FEED];
-    for byte in bytes.iter_mut() {
-        let number = if random.one_in(3) {
-            random.below(9)
-        } else {
-            random.below(256)
-        };
-        *byte = u8::try_from(number).unwrap_or(0);
-    }
-    bytes
+fn random_byte(random: &mut Random) -> u8 {
+    let number = if random.one_in(3) {
+        random.below(9)
+    } else {
+        random.below(256)
+    };
+    u8::try_from(number).unwrap_or(0)
 }
 
 // Reads a record from random bytes, and writes it back if there is one.
 pub(crate) fn try_bytes(random: &mut Random, tally: &mut Tally) -> Result<(), Difference> {
-    let bytes = random_feed(random);
+    // an array: there are always as many, and they are used here alone
+    let bytes = array::from_fn::<u8, FEED, _>(|_| random_byte(random));
     let feed = &bytes[0..random.below(FEED + 1)];
     let place = random.below(FEED + 2).saturating_sub(random.below(FEED));
     let (reading, rest) = read_record(feed, place);

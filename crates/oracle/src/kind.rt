@@ -8,7 +8,7 @@ use measure::scalar::Sum;
 
 // A measure kind whose values and limits are made of plain numbers.
 pub trait Kind: Measure {
-    // Whether price and class count too, beside the delay.
+    // Whether price and class count too, beside the delay. A constant is enough: the two kinds differ in nothing else that is drawn.
     const HAS_ALL: bool;
 
     fn value_of(figures: Figures) -> Self;

@@ -21,6 +21,7 @@ pub(crate) fn room_for(request: Request) -> (usize, usize) {
 
 // Leaves labels as nothing leaves them, so that any use is seen.
 pub(crate) fn mark_labels<M: Kind>(labels: &mut [Label<M>]) {
+    // By `fill` it did not prove: that a value of any kind can always be cloned stays open.
     for label in labels.iter_mut() {
         *label = Label {
             state: State::Settled,

@@ -40,7 +40,7 @@ fn try_all(alloc: Global, random: &mut Random, tally: &mut Tally) -> Result<(), 
 
 fn main(rt: HostRuntime) -> anyhow::Result<()> {
     let mut random = Random::from_seed(20260101);
-    let mut tally = Tally::new();
+    let mut tally = Tally::default();
     match try_all(rt.alloc(), &mut random, &mut tally) {
         Ok(()) => {}
         Err(Difference::NoMemory) => bail!("there is no memory left to compare in"),

@@ -4,7 +4,7 @@ use crate::model::{LEGS, Model, PlainAsk, PlainLink};
 use crate::random::Random;
 use report::Mark;
 
-// A call, with the room that is lent for it.
+// A call, with the room that is lent for it. It is taken apart by each question of its own, case by case.
 #[derive(Clone, Copy, Debug)]
 pub enum Request {
     Offer {
@@ -46,7 +46,7 @@ pub enum Request {
 pub struct Style {
     // What the small numbers are multiplied by.
     pub scale: u64,
-    // Whether price and class count too, beside the delay.
+    // Whether price and class count too, beside the delay: the kind's constant, handed on so that a draw needs no kind.
     pub has_all: bool,
 }
 
@@ -140,7 +140,8 @@ impl Draw<'_> {
         }
     }
 
-    // A link place: of two that are drawn the second, where the first is not as wanted, filled or empty.
+    // A link place: of two that are drawn the second, where the first is not as wanted, filled or empty. A flag here and for cards: with a
+    // closure on the place it did not prove, as what a call of it requires stays open.
     fn link_place(&mut self, is_filled: bool) -> usize {
         let first = self.place(self.model.links.len());
         let second = self.place(self.model.links.len());

@@ -7,7 +7,7 @@ use std::fmt;
 // One more than the greatest number of a refusal.
 const REFUSALS: usize = 20;
 
-#[derive(Clone, Copy)]
+#[derive(Clone, Copy, Default)]
 pub struct Tally {
     pub catalogues: u64,
     pub calls: u64,
@@ -20,7 +20,7 @@ pub struct Tally {
     // Cards that fell into doubt.
     pub doubted: u64,
     pub records: u64,
-    // How often each refusal came, by its number in print.
+    // How often each refusal came, by its number in print: an array, as large as there are numbers.
     refusals: [u64; REFUSALS],
 }
 
@@ -32,20 +32,6 @@ pub(crate) fn count(counter: &mut u64)
 }
 
 impl Tally {
-    pub(crate) fn new() -> Tally {
-        Tally {
-            catalogues: 0,
-            calls: 0,
-            standing: 0,
-            routes: 0,
-            nones: 0,
-            full: 0,
-            doubted: 0,
-            records: 0,
-            refusals: [0; REFUSALS],
-        }
-    }
-
     pub(crate) fn note_refusal(&mut self, number: u8) {
         if let Some(counter) = self.refusals.get_mut(number as usize) {
             count(counter);

@@ -20,6 +20,7 @@ use std::alloc::AllocError;
 pub struct Turn {
     pub request: Request,
     pub forecast: Forecast,
+    // These two are drawn: there are two ways to make the same call, and two books to make it to.
     pub by_its_own: bool,
     pub is_elsewhere: bool,
 }
@@ -66,6 +67,7 @@ impl<M: Kind> Trial<'_, M, M::Limit> {
 
     // Files on the model's card what routing answered for it, with the legs in the card's row, as a reading gives them.
     fn file(&mut self, sought: Sought, answer: Option<PlainRoute>) -> Result<(), AllocError> {
+        // an array, as a reply is lent
         let mut numbers = [BLANK; LEGS];
         let _reply = read_card(&self.book, sought.card, &mut numbers, 0);
         let legs = answer.map_or(0, |route| route.legs).min(LEGS);
@@ -139,6 +141,7 @@ impl<M: Kind> Trial<'_, M, M::Limit> {
         let room = label_room.min(self.labels.len());
         let workspace = &mut self.labels[0..room];
         mark_labels(workspace);
+        // an array, as a reply is lent
         let mut numbers = [BLANK; LEGS];
         let lent = &mut numbers[0..number_room.min(LEGS)];
         let book = pick(&mut self.book, &mut self.other, turn.is_elsewhere);

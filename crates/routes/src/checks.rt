@@ -19,6 +19,9 @@ pub(crate) type Three = Pair<Two, Sum>;
 // What is found: the value and ratio of a route, no route, or a refusal.
 pub(crate) type Found<M> = Result<Option<(M, Ratio)>, Refusal>;
 
+// How many labels a site has, a question, and what is found for it.
+pub(crate) type Case<M, L> = (usize, Ask<L>, Found<M>);
+
 // How many sites and link places a network has, and how many labels there are to lend.
 #[derive(Clone, Copy)]
 pub(crate) struct Sizes {
@@ -31,6 +34,7 @@ pub(crate) fn pair<A, B>(first: A, second: B) -> Pair<A, B> {
     Pair { first, second }
 }
 
+// Each crate of tests has its own few lines such as these.
 pub(crate) fn two(a: u32, b: u32) -> Two {
     pair(Sum::new(a), Sum::new(b))
 }
@@ -71,6 +75,7 @@ pub(crate) fn both_ways<M: Measure, A: Allocator>(
     alloc: A,
     links: &[Link<M>],
 ) -> Result<Vec<Link<M>, A>, AllocError> {
+    // As a chain (flat_map) it did not prove: that the room of its parts is small stays open, for a value of any kind.
     let mut both = Vec::new(alloc);
     for there in links.iter().copied() {
         both.push(there)?;
@@ -99,15 +104,14 @@ fn check_legs<M: Measure + PartialEq + Debug>(
     Ok(())
 }
 
-// With k labels a site, the first of those lent, this is found for the question. A refusal leaves the row as it was.
+// With so many labels a site, the first of those lent, this is found for the question. A refusal leaves the row as it was.
 pub(crate) fn check_answer<M: Measure + PartialEq + Debug>(
     rt: &impl Abort,
     network: &Catalogue<'_, M>,
     labels: &mut [Label<M>],
-    k: usize,
-    ask: Ask<M::Limit>,
-    want: Found<M>,
+    case: Case<M, M::Limit>,
 ) -> Result<(), Fail> {
+    let (k, ask, want) = case;
     let (source, destination) = (ask.source, ask.destination);
     let mut row = [9; 16];
     let size = network.sites().saturating_mul(k).min(labels.len());
@@ -139,14 +143,14 @@ pub(crate) fn check_answers<M: Measure + PartialEq + Debug>(
     rt: &(impl Abort + Alloc),
     sizes: Sizes,
     links: &[Link<M>],
-    cases: &[(usize, Ask<M::Limit>, Found<M>)],
+    cases: &[Case<M, M::Limit>],
 ) -> Result<(), Fail> {
     let mut places = vec![in rt.alloc(); None; sizes.places]?;
     let mut labels = vec![in rt.alloc(); free_label::<M>(); sizes.labels]?;
     let mut network = Catalogue::open(&mut places, sizes.sites);
     store_all(&mut network, links)?;
-    for (k, ask, want) in cases.iter().copied() {
-        check_answer(rt, &network, &mut labels, k, ask, want)?;
+    for case in cases.iter().copied() {
+        check_answer(rt, &network, &mut labels, case)?;
     }
     Ok(())
 }

@@ -11,11 +11,11 @@ fn under(source: u16, destination: u16, a: u32, b: u32, c: u32) -> Ask<Limits> {
     ask(source, destination, pair(pair(a, b), c))
 }
 
-// What stands beside the questions is found for them.
+// What stands beside the questions is found for them. The tests below are tables for it, each under the name of what it shows.
 fn check_eight(
     rt: &(impl Abort + Alloc),
     labels: usize,
-    cases: &[(usize, Ask<Limits>, Found<Three>)],
+    cases: &[Case<Three, Limits>],
 ) -> Result<(), Fail> {
     let links = [
         link(0, 1, three(4, 1, 7)),

@@ -77,11 +77,10 @@ fn check_eleven(rt: &(impl Abort + Alloc), k: usize, want: Found<Two>) -> Result
         places: 12,
         labels: 33,
     };
-    let mut links = Vec::new(rt.alloc());
-    for i in 0..11u32 {
-        links.push(link(0, 1, two(i, 10 - i)))?;
-    }
-    links.push(link(1, 2, two(5, 0)))?;
+    let links = (0..11u32)
+        .map(|i| link(0, 1, two(i, 10u32.saturating_sub(i))))
+        .chain([link(1, 2, two(5, 0))])
+        .collect::<Vec<_, _>>(rt.alloc())?;
     check_answers(rt, sizes, &links, &[(k, under_tens(0, 2), want)])
 }
 

@@ -1,4 +1,4 @@
-//! Searches that are refused before they begin, for the first cause in order, and the row left as it was.
+//! Routes that are refused before routing begins, for the first cause in order, and the row left as it was.
 use crate::checks::*;
 use catalogue::Catalogue;
 use measure::pair::Pair;

@@ -147,7 +147,8 @@ fn from_a_site_to_itself(rt: HostRuntime) -> Result<(), Fail> {
     store_all(&mut network, &both_ways(rt.alloc(), &five_sites())?)?;
     for site in 0..5u16 {
         let ask = under_tens(site, site);
-        check_answer(&rt, &network, &mut labels, 1, ask, best(two(0, 0), 0, 10))?;
+        let case = (1, ask, best(two(0, 0), 0, 10));
+        check_answer(&rt, &network, &mut labels, case)?;
         let route = find_route(&network, &mut labels, 1, ask, &mut [9; 16])?;
         assert_eq!(rt; route.ok_or("no route")?.legs, 0);
     }
