@@ -112,6 +112,7 @@ pub(crate) fn memory_after<M: Measure + PartialEq + Debug, R: Abort + Alloc>(
     Ok(memory)
 }
 
+// Each crate of tests has its own few lines such as these two.
 pub(crate) fn link<M: Measure>(start: u16, end: u16, value: M) -> Link<M> {
     Link { start, end, value }
 }
@@ -140,6 +141,7 @@ pub(crate) fn change<M: Measure, L: Copy>(place: usize, value: M) -> Call<M, L> 
     Call::Change { place, value }
 }
 
+// Its numbers stand side by side, so that a table of calls has a line for each.
 pub(crate) fn quote<M: Measure, L: Copy>(
     card: usize,
     source: u16,

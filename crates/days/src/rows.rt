@@ -124,7 +124,7 @@ fn from_a_site_to_itself(rt: HostRuntime) -> Result<(), Fail> {
     check_rows(&rt, &turns, [7, 7, 7, 7, 0, 0, 0, 0])
 }
 
-// A recheck with these labels answers this.
+// A recheck with these labels answers this. Three of its six are where it is asked, and three what is asked and wanted.
 fn check_recheck(
     rt: &impl Abort,
     day: &mut TrunkDay<'_>,
