@@ -63,7 +63,7 @@ impl<M: Kind> From<Link<M>> for PlainLink {
     }
 }
 
-// Neither type of a mark with an answer is this crate's, so no `From` can stand here.
+// What is held: a mark and an answer, of which a `From` would have to make a pair first.
 fn held<M: Kind>(mark: Mark, answer: Option<Route<M>>) -> PlainAnswer {
     PlainAnswer::Held {
         mark,
@@ -80,15 +80,17 @@ impl<M: Kind> From<Answer<M>> for PlainAnswer {
     }
 }
 
-// Neither type is this crate's alone: a link, a question and a call of the library take the kind along, which a `From` would have to be told.
-fn link_of<M: Kind>(link: PlainLink) -> Link<M> {
-    Link {
-        start: link.start,
-        end: link.end,
-        value: M::value_of(link.value),
+impl<M: Kind> From<PlainLink> for Link<M> {
+    fn from(link: PlainLink) -> Link<M> {
+        Link {
+            start: link.start,
+            end: link.end,
+            value: M::value_of(link.value),
+        }
     }
 }
 
+// The library's question says its limit and not its kind, so that a `From` could not tell the kind.
 fn ask_of<M: Kind>(ask: PlainAsk) -> Ask<M::Limit> {
     Ask {
         source: ask.source,
@@ -97,25 +99,27 @@ fn ask_of<M: Kind>(ask: PlainAsk) -> Ask<M::Limit> {
     }
 }
 
-fn call_of<M: Kind>(request: Request) -> Call<M, M::Limit> {
-    match request {
-        Request::Offer { place, link } => Call::Offer {
-            place,
-            link: link_of(link),
-        },
-        Request::Change { place, value } => Call::Change {
-            place,
-            value: M::value_of(value),
-        },
-        Request::Withdraw { place } => Call::Withdraw { place },
-        Request::Quote { card, ask, k, .. } => Call::Quote {
-            card,
-            ask: ask_of::<M>(ask),
-            k,
-        },
-        Request::Recheck { card, k, .. } => Call::Recheck { card, k },
-        Request::Discard { card } => Call::Discard { card },
-        Request::Read { card, start, .. } => Call::Read { card, start },
+impl<M: Kind> From<Request> for Call<M, M::Limit> {
+    fn from(request: Request) -> Call<M, M::Limit> {
+        match request {
+            Request::Offer { place, link } => Call::Offer {
+                place,
+                link: Link::from(link),
+            },
+            Request::Change { place, value } => Call::Change {
+                place,
+                value: M::value_of(value),
+            },
+            Request::Withdraw { place } => Call::Withdraw { place },
+            Request::Quote { card, ask, k, .. } => Call::Quote {
+                card,
+                ask: ask_of::<M>(ask),
+                k,
+            },
+            Request::Recheck { card, k, .. } => Call::Recheck { card, k },
+            Request::Discard { card } => Call::Discard { card },
+            Request::Read { card, start, .. } => Call::Read { card, start },
+        }
     }
 }
 
@@ -129,7 +133,7 @@ fn call_itself<M: Kind>(
 ) -> Result<PlainAnswer, Refusal> {
     match request {
         Request::Offer { place, link } => {
-            offer(catalogue, book, place, link_of(link)).map(PlainAnswer::Counted)
+            offer(catalogue, book, place, Link::from(link)).map(PlainAnswer::Counted)
         }
         Request::Change { place, value } => {
             change(catalogue, book, place, M::value_of(value)).map(PlainAnswer::Counted)
@@ -162,7 +166,7 @@ pub(crate) fn carry_out<M: Kind>(
     if turn.by_its_own {
         return Ok(call_itself(catalogue, book, workspace, reply, turn.request)?);
     }
-    let call = call_of(turn.request);
+    let call = Call::from(turn.request);
     let answer = perform(catalogue, book, workspace, reply, call)?;
     Ok(PlainAnswer::from(answer))
 }
