@@ -18,10 +18,11 @@ abbrev pub line_for : ℕ → Reply TrunkValue → List ℕ → List ℕ
 line_for number reply numbers = line_of number (printed reply).0 (take (printed reply).1 numbers)
 
 -- Why a line was not written: refusal 19, of a line that has more than 2,048 bytes, and nothing of it is written; or the writer failed, and
--- nothing is known of what it holds then.
+-- nothing is known of what it holds then. Writing takes no memory.
 abbrev pub Unwritten : List ℕ → Option (List ℕ) → Option (List ℕ) → ServiceError → Type 0
 Unwritten line was is (ServiceErrors.Refused why) = (why ≡ BufferTooShort) × (2048 < length line) × (is ≡ was)
 Unwritten line was is (ServiceErrors.Io error) = Unit {0}
+Unwritten line was is ServiceErrors.OutOfMemory = ⊥
 
 -- the line is written behind what was written before, or the answer says why it is not
 abbrev pub PrintsLine : List ℕ → Option (List ℕ) → Option (List ℕ) → Result (Unit {0}) ServiceError → Type 0

@@ -1,10 +1,13 @@
--- What is read of an input, and what the program prints of it.
-use Rattle.std.specs.Prelude.{ℕ, ◌<◌, ◌≤◌, Ok, Err, Result, List, length, take, replicate, Option}
+-- What is read of an input, and what a program prints of it.
+use Rattle.std.specs.Prelude.{◌≡◌, ℕ, ◌*◌, ◌<◌, ◌≤◌, Ok, Err, Result, List, length, take, replicate, Option}
 use Rattle.std.specs.Io.KnownBytes.{Consumes, IsAtEnd}
-use Rattle.cards.specs.Books.{opened_network, opened_book}
+use Rattle.catalogue.specs.Calls.{size_answer}
+use Rattle.cards.specs.Books.{book_size_answer, opened_network, opened_book}
 use Rattle.cards.specs.Runs.{Memory, memory}
 use Rattle.service.specs.declared.ServiceError.{ServiceError}
 use Rattle.service.specs.declared.ServiceError.TheVariants as ServiceErrors
+use Rattle.service.specs.declared.storage.Sizes.{Sizes}
+use Rattle.service.specs.declared.storage.Storage.{Storage}
 use Rattle.service.specs.Serving.{TrunkValue, TrunkLimits}
 use Rattle.service.specs.Services.{Room}
 use Rattle.service.specs.Feeds.{PrintsFeed}
@@ -19,22 +22,46 @@ pub record TakesUpTo (room : ℕ) (was is : Option (List ℕ)) (bytes : List ℕ
 abbrev pub Fills : Option (List ℕ) → Option (List ℕ) → List ℕ → ℕ → Type 0
 Fills was is buffer n = (n ≤ length buffer) × TakesUpTo (length buffer) was is (take n buffer)
 
--- a catalogue of sixteen sites and thirty-two link places, and a quote book of eight cards, just opened
-abbrev pub opened_day : Memory TrunkValue TrunkLimits
-opened_day = memory (opened_network 16 32) (opened_book 16 8 (replicate 128 0))
+-- a program of sixteen sites, thirty-two link places, eight cards and eight walks a site, which reads up to 65,536 bytes
+abbrev pub small : Sizes
+small = record { sites = 16; places = 32; cards = 8; walks = 8; input = 65536 }
 
--- eight labels a site for sixteen sites, and a number for each site
-abbrev pub day_room : Room
-day_room = record { k = 8; labels = 128; numbers = 16 }
+-- a program of 256 sites, 4,096 link places, 256 cards and 64 walks a site, which reads up to 67,108,864 bytes
+abbrev pub large : Sizes
+large = record { sites = 256; places = 4096; cards = 256; walks = 64; input = 67108864 }
 
--- the input's first 65,536 bytes are a feed, and this is what becomes of it
-abbrev pub ServesInput : Option (List ℕ) → Option (List ℕ) → Option (List ℕ) → Option (List ℕ) → Result (Unit {0}) ServiceError → Type 0
-ServesInput was is printed_before printed_after answer =
-    (feed : List ℕ) × TakesUpTo 65536 was is feed
-    × (after : Memory TrunkValue TrunkLimits) × PrintsFeed feed day_room opened_day printed_before printed_after after answer
+-- a catalogue and a quote book of these sizes, just opened
+abbrev pub opened_day : Sizes → Memory TrunkValue TrunkLimits
+opened_day s = memory (opened_network s.sites s.places) (opened_book s.sites s.cards (replicate (s.cards * s.sites) 0))
 
--- The lines of the input are printed. A refusal breaks off at a line that is too long; where the reader or the writer failed, nothing is known.
-abbrev pub PrintsInput : Option (List ℕ) → Option (List ℕ) → Option (List ℕ) → Option (List ℕ) → Result (Unit {0}) ServiceError → Type 0
-PrintsInput was is printed_before printed_after (Ok done) = ServesInput was is printed_before printed_after (Ok done)
-PrintsInput was is printed_before printed_after (Err (ServiceErrors.Refused why)) = ServesInput was is printed_before printed_after (Err (ServiceErrors.Refused why))
-PrintsInput was is printed_before printed_after (Err (ServiceErrors.Io error)) = Unit {0}
+-- a label for each site and walk, and a number for each site
+abbrev pub day_room : Sizes → Room
+day_room s = record { k = s.walks; labels = s.sites * s.walks; numbers = s.sites }
+
+-- the lines of the feed are printed, or it broke off, and then so much is in memory
+abbrev pub ServesDay : List ℕ → Room → Memory TrunkValue TrunkLimits → Option (List ℕ) → Option (List ℕ) → Result (Unit {0}) ServiceError → Type 0
+ServesDay feed room m was is answer = (after : Memory TrunkValue TrunkLimits) × PrintsFeed feed room m was is after answer
+
+-- the input's first bytes, as many as are read, are a feed, and this is what becomes of it
+abbrev pub ServesInput : Sizes → Option (List ℕ) → Option (List ℕ) → Option (List ℕ) → Option (List ℕ) → Result (Unit {0}) ServiceError → Type 0
+ServesInput s was is printed_before printed_after answer =
+    (feed : List ℕ) × TakesUpTo s.input was is feed × ServesDay feed (day_room s) (opened_day s) printed_before printed_after answer
+
+-- The lines of the input are printed. A refusal breaks off at a line that is too long; where the reader or the writer failed, nothing is
+-- known; where there was no memory, nothing was read and nothing printed.
+abbrev pub PrintsInput : Sizes → Option (List ℕ) → Option (List ℕ) → Option (List ℕ) → Option (List ℕ) → Result (Unit {0}) ServiceError → Type 0
+PrintsInput s was is printed_before printed_after (Ok done) = ServesInput s was is printed_before printed_after (Ok done)
+PrintsInput s was is printed_before printed_after (Err (ServiceErrors.Refused why)) = ServesInput s was is printed_before printed_after (Err (ServiceErrors.Refused why))
+PrintsInput s was is printed_before printed_after (Err (ServiceErrors.Io error)) = Unit {0}
+PrintsInput s was is printed_before printed_after (Err ServiceErrors.OutOfMemory) = (is ≡ was) × (printed_after ≡ printed_before)
+
+-- the storage has these sizes, and opening does not refuse them
+pub record LentFor (s : Sizes) (lent : Storage) : Type 0 where
+  pub links : length lent.links.now ≡ s.places
+  pub cards : length lent.cards.now ≡ s.cards
+  pub rows : length lent.rows.now ≡ s.cards * s.sites
+  pub labels : length lent.labels.now ≡ s.sites * s.walks
+  pub reply : length lent.reply.now ≡ s.sites
+  pub input : length lent.input.now ≡ s.input
+  pub allowed : size_answer s.sites s.places ≡ Ok tt
+  pub allowed_book : book_size_answer s.sites s.cards (s.cards * s.sites) ≡ Ok tt

@@ -12,15 +12,19 @@ use measure::pair::{Trunk, TrunkLimit, trunk_limits, trunk_value};
 use records::{Measures, Record};
 use report::Refusal;
 use routing::{Ask, Route};
+use std::alloc::AllocError;
 use std::io;
 use thiserror::Error;
 
 mod feeds;
 mod input;
+mod large;
 mod serving;
+mod storage;
 
 pub use feeds::print_line;
 pub use input::{read_input, serve_input};
+pub use large::serve_large_input;
 pub use serving::Service;
 
 // Why the lines of a feed were not written to their end.
@@ -30,9 +34,11 @@ pub enum ServiceError {
     Refused(Refusal),
     #[error("the input or the output failed: {0}")]
     Io(io::Error),
+    #[error("out of memory")]
+    OutOfMemory,
 }
 
-// Both conversions are written out, since a derived one promises nothing, and contracts say which error came.
+// The conversions are written out, since a derived one promises nothing, and contracts say which error came.
 impl From<Refusal> for ServiceError {
     ghost from_gives = { λ why e. e ≡ ServiceErrors.Refused why };
 
@@ -46,6 +52,14 @@ impl From<io::Error> for ServiceError {
 
     fn from(error: io::Error) -> ServiceError {
         ServiceError::Io(error)
+    }
+}
+
+impl From<AllocError> for ServiceError {
+    ghost from_gives = { λ _ e. e ≡ ServiceErrors.OutOfMemory };
+
+    fn from(_: AllocError) -> ServiceError {
+        ServiceError::OutOfMemory
     }
 }
 

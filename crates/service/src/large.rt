@@ -1,0 +1,61 @@
+//! The same program at full size, with its memory on the heap.
+ghost use Rattle.service.specs.Input.{large, PrintsInput};
+
+use crate::ServiceError;
+use crate::storage::{Sizes, Storage};
+use routing::free_label;
+use std::alloc::Global;
+use std::io::{Read, Write};
+
+// The sizes are the largest that a catalogue and a quote book can be opened with, written out.
+const SITES: usize = 256;
+
+const PLACES: usize = 4096;
+
+const CARDS: usize = 256;
+
+// How many walks routing can hold at a site.
+const WALKS: usize = 64;
+
+// A number for each card place and site.
+const ROWS: usize = 65536;
+
+// A label for each site and walk.
+const LABELS: usize = 16384;
+
+// How much of the input is read: 64 MiB.
+const INPUT: usize = 67108864;
+
+const SIZES: Sizes = Sizes {
+    sites: SITES,
+    places: PLACES,
+    cards: CARDS,
+    walks: WALKS,
+    input: INPUT,
+};
+
+// Opens a catalogue of 256 sites and 4,096 link places and a quote book of 256 cards, reads up to 67,108,864 bytes of input as a feed, and
+// writes a line for each record, with 64 labels a site. All memory is taken first: where it runs out, nothing was read and nothing written.
+pub fn serve_large_input<R: Read, W: Write>(
+    alloc: Global,
+    input: &mut R,
+    out: &mut W,
+) -> Result<(), ServiceError>
+    ensures { PrintsInput large (R.Read.remaining input.old) (R.Read.remaining input.new) (W.Write.contents out.old) (W.Write.contents out.new) result }
+{
+    let mut buffer = vec![in alloc; 0u8; INPUT]?;
+    let mut links = vec![in alloc; None; PLACES]?;
+    let mut cards = vec![in alloc; None; CARDS]?;
+    let mut rows = vec![in alloc; 0u16; ROWS]?;
+    let mut labels = vec![in alloc; free_label(); LABELS]?;
+    let mut reply = vec![in alloc; 0u16; SITES]?;
+    let mut storage = Storage {
+        links: &mut links,
+        cards: &mut cards,
+        rows: &mut rows,
+        labels: &mut labels,
+        reply: &mut reply,
+        input: &mut buffer,
+    };
+    storage.serve(SIZES, input, out)
+}

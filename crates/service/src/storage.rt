@@ -1,0 +1,93 @@
+//! The memory of a program, and what becomes of an input that is served over it.
+ghost use Rattle.std.specs.Prelude.{◌≡◌, ◌≢◌, Err};
+ghost use Rattle.book.specs.Stores.{memory_of};
+ghost use Rattle.service.specs.Services.{room_of};
+ghost use Rattle.service.specs.Input.{LentFor, ServesDay, PrintsInput};
+ghost use Rattle.service.specs.declared.ServiceError.TheVariants as ServiceErrors;
+
+use crate::{Service, ServiceError, read_input};
+use cards::Card;
+use catalogue::{Catalogue, Link, check_size};
+use labels::Label;
+use measure::pair::{Trunk, TrunkLimit};
+use quotes::{QuoteBook, check_book_size};
+use std::io::{Read, Write};
+
+// How large a program is: its sites, link places and cards, how many walks routing can hold at a site, and how many bytes of input it reads.
+#[derive(Clone, Copy)]
+pub struct Sizes {
+    pub sites: usize,
+    pub places: usize,
+    pub cards: usize,
+    pub walks: usize,
+    pub input: usize,
+}
+
+// What a program lends to the library: places for links and for cards, the cards' rows, labels, numbers for a route's legs, and room for
+// the input.
+#[derive(Drop)]
+pub struct Storage<'m> {
+    pub links: &'m mut [Option<Link<Trunk>>],
+    pub cards: &'m mut [Option<Card<Trunk, TrunkLimit>>],
+    pub rows: &'m mut [u16],
+    pub labels: &'m mut [Label<Trunk>],
+    pub reply: &'m mut [u16],
+    pub input: &'m mut [u8],
+}
+
+// Serves a feed on a catalogue and a quote book, with k labels a site. It stands by itself, since a service holds them and what is lent to
+// their calls at one lifetime, and here all come at one.
+fn serve_day<'s, 'm, W: Write>(
+    catalogue: &'s mut Catalogue<'m, Trunk>,
+    book: &'s mut QuoteBook<'m, Trunk, TrunkLimit>,
+    labels: &'s mut [Label<Trunk>],
+    k: usize,
+    reply: &'s mut [u16],
+    out: &mut W,
+    feed: &[u8],
+) -> Result<(), ServiceError>
+    ensures { ServesDay feed.now (room_of k labels.old reply.old) (memory_of catalogue.old book.old) (W.Write.contents out.old) (W.Write.contents out.new) result }
+{
+    let mut service = Service {
+        catalogue,
+        book,
+        labels,
+        k,
+        reply,
+    };
+    service.serve_feed(out, feed)
+}
+
+impl Storage<'_> {
+    // Opens a catalogue and a quote book, reads the input up to the end of the room for it, and writes a line for each record. No memory
+    // is taken.
+    pub(crate) fn serve<R: Read, W: Write>(
+        &mut self,
+        sizes: Sizes,
+        input: &mut R,
+        out: &mut W,
+    ) -> Result<(), ServiceError>
+        requires { LentFor sizes self.old }
+        ensures printed { PrintsInput sizes (R.Read.remaining input.old) (R.Read.remaining input.new) (W.Write.contents out.old) (W.Write.contents out.new) result }
+        ensures memory { result ≢ Err ServiceErrors.OutOfMemory }
+    {
+        let (links, cards, rows) = (&mut *self.links, &mut *self.cards, &mut *self.rows);
+        let (labels, reply, buffer) = (&mut *self.labels, &mut *self.reply, &mut *self.input);
+        check_size(sizes.sites, sizes.places)?;
+        check_book_size(sizes.sites, sizes.cards, rows.len())?;
+        rows.fill(0);
+        let mut catalogue = Catalogue::open(links, sizes.sites);
+        let mut book = QuoteBook::open(cards, rows, sizes.sites);
+        let got = read_input(input, buffer)?;
+        let feed = &buffer[0..got];
+        serve_day(
+            &mut catalogue,
+            &mut book,
+            labels,
+            sizes.walks,
+            reply,
+            out,
+            feed,
+        )
+    }
+}
