@@ -1,10 +1,11 @@
 //! The same program at full size, with its memory on the heap.
+ghost use Rattle.std.specs.Prelude.{◌≡◌, IfOk, vec_len};
 ghost use Rattle.service.specs.Input.{large, PrintsInput};
 
 use crate::ServiceError;
 use crate::storage::{Sizes, Storage};
 use routing::free_label;
-use std::alloc::Global;
+use std::alloc::{AllocError, Global};
 use std::io::{Read, Write};
 
 // The sizes are the largest that a catalogue and a quote book can be opened with, written out.
@@ -34,6 +35,13 @@ const SIZES: Sizes = Sizes {
     input: INPUT,
 };
 
+// Memory for so many values. Only their number is told, since no more is needed, and lists of so many are not to be written out in a proof.
+fn lend<T: Copy>(alloc: Global, value: T, count: usize) -> Result<Vec<T>, AllocError>
+    ensures { IfOk result (λ lent. vec_len lent ≡ count) }
+{
+    vec![in alloc; value; count]
+}
+
 // Opens a catalogue of 256 sites and 4,096 link places and a quote book of 256 cards, reads up to 67,108,864 bytes of input as a feed, and
 // writes a line for each record, with 64 labels a site. All memory is taken first: where it runs out, nothing was read and nothing written.
 pub fn serve_large_input<R: Read, W: Write>(
@@ -43,12 +51,12 @@ pub fn serve_large_input<R: Read, W: Write>(
 ) -> Result<(), ServiceError>
     ensures { PrintsInput large (R.Read.remaining input.old) (R.Read.remaining input.new) (W.Write.contents out.old) (W.Write.contents out.new) result }
 {
-    let mut buffer = vec![in alloc; 0u8; INPUT]?;
-    let mut links = vec![in alloc; None; PLACES]?;
-    let mut cards = vec![in alloc; None; CARDS]?;
-    let mut rows = vec![in alloc; 0u16; ROWS]?;
-    let mut labels = vec![in alloc; free_label(); LABELS]?;
-    let mut reply = vec![in alloc; 0u16; SITES]?;
+    let mut buffer = lend(alloc, 0u8, INPUT)?;
+    let mut links = lend(alloc, None, PLACES)?;
+    let mut cards = lend(alloc, None, CARDS)?;
+    let mut rows = lend(alloc, 0u16, ROWS)?;
+    let mut labels = lend(alloc, free_label(), LABELS)?;
+    let mut reply = lend(alloc, 0u16, SITES)?;
     let mut storage = Storage {
         links: &mut links,
         cards: &mut cards,

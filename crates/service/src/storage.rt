@@ -71,6 +71,7 @@ impl Storage<'_> {
         ensures printed { PrintsInput sizes (R.Read.remaining input.old) (R.Read.remaining input.new) (W.Write.contents out.old) (W.Write.contents out.new) result }
         ensures memory { result ≢ Err ServiceErrors.OutOfMemory }
     {
+        // Each slice is taken into a variable first: a loan of one in its field would stand in the way of the others.
         let (links, cards, rows) = (&mut *self.links, &mut *self.cards, &mut *self.rows);
         let (labels, reply, buffer) = (&mut *self.labels, &mut *self.reply, &mut *self.input);
         check_size(sizes.sites, sizes.places)?;
