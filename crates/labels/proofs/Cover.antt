@@ -14,11 +14,15 @@ module _ {V L : Type 0} (K : Kind V L) (l : L) (Lead : ℕ → ℕ → ℕ → V
   abbrev pub Covered : ℕ → V → Type 0
   Covered t w = (v : V) × (Queued t v ⊎ Settled t v) × K.dominates v w ≡ true
 
+  -- some queued value ranks no later than w
+  abbrev pub Late : V → Type 0
+  Late w = (s : ℕ) × (v : V) × Queued s v × (ranks K l w v ≡ false)
+
   pub record Covers : Type 0 where
     pub queued_fit : (s : ℕ) (v : V) → Queued s v → Fit K l v
     pub settled_fit : (s : ℕ) (v : V) → Settled s v → Fit K l v
     pub start : Covered src K.empty
-    pub spread : (s : ℕ) (h : V) → Settled s h → (p t : ℕ) (c : V) → Lead p s t c → K.within (extend K h c) l ≡ true → Covered t (extend K h c)
+    pub spread : (s : ℕ) (h : V) → Settled s h → (p t : ℕ) (c : V) → Lead p s t c → K.within (extend K h c) l ≡ true → Covered t (extend K h c) ⊎ Late (extend K h c)
 
 module _ {V L : Type 0} {K : Kind V L} (laws : Laws K) (Lead : ℕ → ℕ → ℕ → V → Type 0) (links : (p s t : ℕ) (c : V) → Lead p s t c → Made K c) where
   pub goes_made : (ps : List ℕ) (s t : ℕ) (v w : V) → Made K v → Goes K Lead s v ps t w → Made K w
@@ -41,7 +45,7 @@ module _ {V L : Type 0} {K : Kind V L} (laws : Laws K) (Lead : ℕ → ℕ → �
 module _ {V L : Type 0} {K : Kind V L} (laws : Laws K) (l : L) (adm : K.limit_admitted l ≡ true) (Lead : ℕ → ℕ → ℕ → V → Type 0) (links : (p s t : ℕ) (c : V) → Lead p s t c → Made K c) (src : ℕ) (Queued Settled : ℕ → V → Type 0) (covers : Covers K l Lead src Queued Settled) where
   -- w is dominated by a settled value at t, or some queued value ranks no later
   abbrev Reached : ℕ → V → Type 0
-  Reached t w = ((v : V) × Settled t v × K.dominates v w ≡ true) ⊎ ((s : ℕ) × (v : V) × Queued s v × (ranks K l w v ≡ false))
+  Reached t w = ((v : V) × Settled t v × K.dominates v w ≡ true) ⊎ Late K l Lead src Queued Settled w
 
   has_reached : (t : ℕ) (w : V) → Fit K l w → Covered K l Lead src Queued Settled t w → Reached t w
   has_reached t w fw (v, held, d) =
@@ -57,9 +61,11 @@ module _ {V L : Type 0} {K : Kind V L} (laws : Laws K) (l : L) (adm : K.limit_ad
       let mj = extend_made K h c mh mc in
       let dj = extend_keeps laws h v c mh mv mc d in
       let fj = fit_dom laws l adm (extend K h c) (extend K v c) mj f dj in
-      let has = covers.spread s h set p t c lead fj.within in
-      let mx = ⊎_elim (λ q. (covers.queued_fit t has.0 q).made) (λ q. (covers.settled_fit t has.0 q).made) has.1 in
-      has_reached t (extend K v c) f (has.0, has.1, laws.dom_trans has.0 (extend K h c) (extend K v c) mx mj f.made has.2 dj)
+      ⊎_elim
+      (λ has. let mx = ⊎_elim (λ q. (covers.queued_fit t has.0 q).made) (λ q. (covers.settled_fit t has.0 q).made) has.1 in
+      has_reached t (extend K v c) f (has.0, has.1, laws.dom_trans has.0 (extend K h c) (extend K v c) mx mj f.made has.2 dj))
+      (λ late. inr (late.0, late.1, late.2, rank_trans laws l adm late.1 (extend K h c) (extend K v c) (covers.queued_fit late.0 late.1 late.2) fj f late.3 (rank_dom laws l adm (extend K h c) (extend K v c) fj f dj)))
+      (covers.spread s h set p t c lead fj.within)
   reached_step s t p v c mv lead f (inr (x, q, queued, r)) =
       let mc = links p s t c lead in
       let fv = fit_dom laws l adm v (extend K v c) mv f (extend_over laws v c mv mc) in

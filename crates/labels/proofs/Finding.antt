@@ -8,7 +8,7 @@ use Rattle.catalogue.specs.Walks.{Holds}
 use Rattle.catalogue.specs.Routes.{Sound}
 use Rattle.catalogue.proofs.Walking.{holds_one}
 use Rattle.labels.specs.declared.Label.{Label}
-use Rattle.labels.specs.Labels.{Offered, Opens, Rests}
+use Rattle.labels.specs.Labels.{Opens, Rests}
 
 -- the values of a sound catalogue's links can come about
 pub links_made : {V L : Type 0} {K : Kind V L} (sites : ℕ) (links : List (Option (Link V))) → Sound K sites links → (p s t : ℕ) (c : V) → Holds links p s t c → Made K c

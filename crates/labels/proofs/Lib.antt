@@ -2,7 +2,15 @@ pub mod Extending
 pub mod Cover
 pub mod Chains
 pub mod Steps
+pub mod Nodes
+pub mod Standing
+pub mod Writes
+pub mod Climbing
+pub mod Seeding
+pub mod Entering
 pub mod Scans
+pub mod Putting
 pub mod Turns
 pub mod Finding
 pub mod Tracing
+pub mod Outgoing

@@ -1,81 +1,38 @@
 -- What a turn of each scan over the labels keeps.
-use Rattle.std.proofs.Common.{true, ◌≡◌, ℕ, ◌+◌, ◌-◌, ◌*◌, Bool, ◌<◌, ◌≤◌, false, cond, ◌&&◌, ◌⊎◌, List, ◌++◌, length, get_or, take, drop, map, set, slice_range, position, refl, Some, None, Option, sym, ap, ◌∙◌, inl, inr, ⊎_elim, arith, get_or-set_other, get_or-set_same}
-use Rattle.std.proofs.lemmas.List.{get_or-map, get_or_default, get_or_append_left, get_or-append_right, get_or-take, get_or-drop, length-map, length-set, length-take-le, take-append-drop}
-use Rattle.std.proofs.lemmas.List.Edits.{length-between, get_or-between}
+use Rattle.std.specs.Prelude.{MatchOption}
+use Rattle.std.proofs.Common.{subst, true, ◌≡◌, ℕ, ◌+◌, ◌-◌, ◌*◌, Bool, ◌<◌, ◌≤◌, false, cond, ◌⊎◌, List, ◌++◌, length, get_or, take, drop, map, set, slice_range, position, refl, Some, None, Option, sym, ap, ◌∙◌, inl, inr, ⊎_elim, arith}
+use Rattle.std.proofs.lemmas.List.{get_or-map, get_or_default, get_or_append_left, get_or-append_right, get_or-take, get_or-drop, length-map, length-take-le}
+use Rattle.std.proofs.lemmas.List.Edits.{length-between, get_or-between, map_over_more}
 use Rattle.std.proofs.lemmas.List.Folds.{Any-from_list_any, list_any_at}
 use Rattle.std.proofs.lemmas.List.Quantifiers.{position-Some}
 use Rattle.std.proofs.lemmas.List.Sums.{fails_before_first}
 use Rattle.std.specs.List.{list_any}
 use borrow.Rule.Slice.PartMut.{put_mid}
-use Rattle.std.proofs.lemmas.Bool.{false≢true, both_ways, cases_eq, cases_Bool, cond-true, cond-false, cases_lt, ltb-false, not-true, not-false, false_from_ne_true, and_parts, and_from, and_cases}
+use Rattle.std.proofs.lemmas.Bool.{both_ways, cases_Bool, cond-true, cond-false, cases_lt, ltb-false, not-true, not-false, false_from_ne_true, and_parts, and_cases}
 use Rattle.labels.specs.declared.Label.{Label}
+use Rattle.labels.specs.declared.Slot.{Slot}
 use Rattle.measure.specs.Kind.{Kind}
-use Rattle.measure.specs.Laws.{Laws}
-use Rattle.measure.specs.Ranks.{Fit, ranks}
-use Rattle.labels.specs.Labels.{is_held, is_queued, is_settled, is_free, In, Held, covers, Waits, Fits, Leader, FirstBelow, ahead, table, blank, yields, freed, cleared, Adds, Frees}
-use Rattle.measure.proofs.Ranking.{rank_trans, rank_self, rank_total}
-use Rattle.labels.proofs.Chains.{at_or, waits_held, done_held, not_both}
-
-module _ {V L : Type 0} {K : Kind V L} (laws : Laws K) (l : L) (adm : K.limit_admitted l ≡ true) (A : ℕ → Label V) (fits : Fits K l A) (i : ℕ) where
-  -- the label at i leads: it ranks before the leader, if there is one
-  pub leader_new : (r : Option ℕ) → FirstBelow K l A i r → (is_queued (A i).state && ahead K l A r (A i).value) ≡ true → Leader K l A (i + 1) i
-  leader_new r best leads = record {
-    low = omega arith;
-    waits = waits;
-    first = λ q lt w. at_or (λ y. ranks K l (A y).value (A i).value ≡ false) i (rank_self laws l adm (A i).value fit) q (λ ne. below r best (and_parts _ _ leads).1 q (omega arith) w);
-  }
-    where
-      waits : Waits A i
-      waits = (and_parts _ _ leads).0
-
-      fit : Fit K l (A i).value
-      fit = fits i (waits_held _ waits)
-
-      below : (r : Option ℕ) → FirstBelow K l A i r → ahead K l A r (A i).value ≡ true → (q : ℕ) → q < i → Waits A q → ranks K l (A q).value (A i).value ≡ false
-      below None none first q lt w = absurd (none q lt w)
-      below (Some b) lead first q lt w =
-          let fb = fits b (waits_held _ lead.waits) in
-          let ib = ⊎_elim (λ e. e) (λ e. absurd (both_ways _ e first)) (rank_total laws l adm (A i).value (A b).value fit fb) in
-          rank_trans laws l adm (A i).value (A b).value (A q).value fit fb (fits q (waits_held _ w)) ib (lead.first q lt w)
-
-  -- it does not lead
-  pub leader_stays : (r : Option ℕ) → FirstBelow K l A i r → (is_queued (A i).state && ahead K l A r (A i).value) ≡ false → FirstBelow K l A (i + 1) r
-  leader_stays None none stays = λ q lt w.
-      ⊎_elim (λ e. both_ways _ stays (and_from _ _ (rw e at w) refl)) (λ ne. none q (omega arith) w) (cases_eq q i)
-  leader_stays (Some b) lead stays = record {
-    low = omega (arith, lead.low);
-    waits = lead.waits;
-    first = λ q lt w. ⊎_elim
-        (λ e. rw e (⊎_elim (λ idle. absurd (both_ways _ idle (rw e at w))) (λ behind. behind) (and_cases _ _ stays)))
-        (λ ne. lead.first q (omega arith) w)
-        (cases_eq q i);
-  }
-
--- what a write at i leaves of the table
-module _ {V L : Type 0} (K : Kind V L) (xs : List (Label V)) (i : ℕ) (y : Label V) where
-  pub table_same : i < length xs → table K (set xs i y) i ≡ y
-  table_same lt = get_or-set_same xs i y (blank K) lt
-
-  pub table_other : (p : ℕ) → (p ≡ i → ⊥) → table K (set xs i y) p ≡ table K xs p
-  table_other p ne = get_or-set_other xs i p y (blank K) ne
+use Rattle.labels.specs.Labels.{is_held, is_queued, is_settled, is_free, In, Held, covers, Waits, slot, table, blank_slot, yields, freed, cleared, Swept, Adds, Frees}
+use Rattle.labels.specs.Tournament.{Unused, SameUsed}
+use Rattle.labels.proofs.Chains.{waits_held, done_held, not_both}
 
 -- where every label is freed
-pub frees_map : {V L : Type 0} (K : Kind V L) (xs : List (Label V)) → Frees (table K (map freed xs)) (length (map freed xs))
-frees_map K xs p lt = ap (λ y. is_held y.state) (get_or-map freed xs p (blank K) (blank K) (simp length-map at lt))
+pub frees_map : {V L : Type 0} (K : Kind V L) (xs : List (Slot V)) → Frees (table K (map freed xs)) (length (map freed xs))
+frees_map K xs p lt = ap (λ y. is_held y.label.state) (get_or-map freed xs p (blank_slot K) (blank_slot K) (simp length-map at lt))
 
 -- what clearing makes of a label: it is freed where it yields, else it stays
-module _ {V L : Type 0} (K : Kind V L) (n : V) (x : Label V) where
+module _ {V L : Type 0} (K : Kind V L) (n : V) (x : Slot V) where
   cleared_cases : (yields K n x ≡ true × (cleared K n x ≡ freed x)) ⊎ ((yields K n x ≡ false) × (cleared K n x ≡ x))
   cleared_cases = ⊎_elim (λ e. inl (e, cond-true _ _ _ e)) (λ e. inr (e, cond-false _ _ _ e)) (cases_Bool (yields K n x))
 
-  cleared_held : is_held (cleared K n x).state ≡ true → (is_held x.state ≡ true) × (is_queued x.state ≡ true → K.dominates n x.value ≡ false)
+  cleared_held : is_held (cleared K n x).label.state ≡ true → (is_held x.label.state ≡ true) × (is_queued x.label.state ≡ true → K.dominates n x.label.value ≡ false)
   cleared_held held =
       ⊎_elim
-      (λ f. absurd (both_ways _ (ap (λ z. is_held z.state) (f.1)) held))
+      (λ f. absurd (both_ways _ (ap (λ z. is_held z.label.state) (f.1)) held))
       (λ k. (rw (k.1) at held, λ w. ⊎_elim (λ q. absurd (both_ways _ q w)) (λ d. d) (and_cases _ _ k.0)))
       cleared_cases
 
-  cleared_free : is_held (cleared K n x).state ≡ false → (is_settled x.state ≡ true → ⊥) × (is_held x.state ≡ true → K.dominates n x.value ≡ true)
+  cleared_free : is_held (cleared K n x).label.state ≡ false → (is_settled x.label.state ≡ true → ⊥) × (is_held x.label.state ≡ true → K.dominates n x.label.value ≡ true)
   cleared_free free =
       ⊎_elim
       (λ f. let parts = and_parts _ _ f.0 in (not_both _ parts.0, λ _. parts.1))
@@ -92,100 +49,208 @@ position_none test xs e p d lt =
     let past = ltb-false _ _ (none_false _ _ e) in
     fails_before_first test xs p d (omega arith)
 
--- labels, where those that a newcomer dominates are cleared
-abbrev pub swept : {V L : Type 0} → Kind V L → List (Label V) → Label V → List (Label V)
-swept K xs y = map (cleared K y.value) xs
+-- a free place stays as it is
+free_stays : {V L : Type 0} (K : Kind V L) (n : V) (x : Slot V) → is_held x.label.state ≡ false → yields K n x ≡ false
+free_stays K n x free = false_from_ne_true _ (λ e. both_ways _ free (waits_held _ (and_parts _ _ e).0))
 
--- the labels of one site, from s on, among all
-module _ {V L : Type 0} (K : Kind V L) (xs : List (Label V)) (k t s : ℕ) (first : s ≡ t * k) (room : s + k ≤ length xs) where
-  abbrev here : List (Label V)
-  here = slice_range xs s (s + k)
+-- one more place is gone over: it was freed where it yields, else it stays
+pub cleared_more : {V L : Type 0} (K : Kind V L) (v : V) (xs ys zs : List (Slot V)) (i : ℕ) (r : Slot V) → i < length xs → ys ≡ map (cleared K v) (take i xs) ++ drop i xs → r ≡ get_or ys i r →
+    ((yields K v (get_or ys i r) ≡ true) × (zs ≡ set ys i (freed (get_or ys i r)))) ⊎ ((yields K v (get_or ys i r) ≡ false) × (zs ≡ set ys i (get_or ys i r))) → zs ≡ map (cleared K v) (take (i + 1) xs) ++ drop (i + 1) xs
+cleared_more {V} K v xs ys zs i r lt so is turn =
+    let on : zs ≡ set ys i (cleared K v (get_or ys i r)) = ⊎_elim
+    (λ e. e.1 ∙ ap (set ys i) (sym (cond-true (yields K v (get_or ys i r)) (freed (get_or ys i r)) (get_or ys i r) e.0)))
+    (λ e. e.1 ∙ ap (set ys i) (sym (cond-false (yields K v (get_or ys i r)) (freed (get_or ys i r)) (get_or ys i r) e.0)))
+    turn in
+    on ∙ ap (λ (y : Slot V). set ys i (cleared K v y)) (sym is) ∙ map_over_more (cleared K v) xs ys i r lt so is
 
-  pub here_long : length here ≡ k
-  here_long = length-between xs s (s + k) room ∙ omega arith
+-- a place is of the site, or not
+pub in_or_off : (k t p : ℕ) → In k t p ⊎ (In k t p → ⊥)
+in_or_off k t p = ⊎_elim (λ low. inr (λ at. omega (arith, at.0))) (λ ge. ⊎_elim (λ lt. inl (ge, lt)) (λ high. inr (λ at. omega (arith, at.1))) (cases_lt p (t * k + k))) (cases_lt p (t * k))
 
-  here_at : (p : ℕ) → p < k → table K here p ≡ table K xs (s + p)
-  here_at p lt = get_or-between xs s (s + k) p (blank K) (omega arith)
+-- u places, from s on
+module _ {V L : Type 0} (K : Kind V L) (xs : List (Slot V)) (s u : ℕ) (room : s + u ≤ length xs) where
+  abbrev used_here : List (Slot V)
+  used_here = slice_range xs s (s + u)
 
-  here_of : (p : ℕ) → In k t p → table K here (p - s) ≡ table K xs p
-  here_of p at = here_at (p - s) (omega (arith, at.0, at.1)) ∙ ap (table K xs) (omega (arith, at.0))
+  here_long : length used_here ≡ u
+  here_long = length-between xs s (s + u) room ∙ omega arith
 
-  pub dominated_here : (n : V) → list_any (covers K n) here ≡ true → (p : ℕ) × In k t p × covers K n (table K xs p) ≡ true
-  dominated_here n some =
-      let (p, x, lt, is, covered) = Any-from_list_any (covers K n) here some in
-      let within : p < k = omega (arith, here_long) in
-      (s + p, (omega arith, omega arith), ap (covers K n) (sym (here_at p within) ∙ get_or_default here p (blank K) x lt ∙ is) ∙ covered)
+  here_at : (p : ℕ) → p < u → slot K used_here p ≡ slot K xs (s + p)
+  here_at p lt = get_or-between xs s (s + u) p (blank_slot K) (omega arith)
 
-  pub fresh_here : (n : V) → list_any (covers K n) here ≡ false → (p : ℕ) → In k t p → covers K n (table K xs p) ≡ false
-  fresh_here n none p at =
-      false_from_ne_true _ (λ e. both_ways _ none (list_any_at (covers K n) here (p - s) (blank K) (omega (arith, here_long, at.0, at.1)) (ap (covers K n) (here_of p at) ∙ e)))
+  here_of : (p : ℕ) → s ≤ p → p < s + u → slot K used_here (p - s) ≡ slot K xs p
+  here_of p low high = here_at (p - s) (omega arith) ∙ ap (slot K xs) (omega arith)
 
-  swept_of : (y : Label V) (p : ℕ) → In k t p → table K (swept K here y) (p - s) ≡ cleared K y.value (table K xs p)
-  swept_of y p at = get_or-map (cleared K y.value) here (p - s) (blank K) (blank K) (omega (arith, here_long, at.0, at.1)) ∙ ap (cleared K y.value) (here_of p at)
+  -- each of them is changed by f
+  module _ (f : Slot V → Slot V) where
+    abbrev made_here : List (Slot V)
+    made_here = map f used_here
 
-  swept_long : (y : Label V) → length (swept K here y) ≡ k
-  swept_long y = length-map here (cleared K y.value) ∙ here_long
+    -- all places, with these in them
+    abbrev made_all : List (Slot V)
+    made_all = put_mid s (s + u - s) xs made_here
 
-  pub full_here : (y : Label V) → position is_free (swept K here y) ≡ None → (p : ℕ) → In k t p → Held (table K xs) p × (Waits (table K xs) p → K.dominates y.value (table K xs p).value ≡ false)
-  full_here y none p at =
-      cleared_held K y.value (table K xs p) (rw (swept_of y p at) at (not-false _ (position_none is_free (swept K here y) none (p - s) (blank K) (omega (arith, swept_long y, at.0, at.1)))))
-
-  -- what a write to them leaves of all
-  module _ (zs : List (Label V)) (size : length zs ≡ k) where
-    abbrev D : ℕ → Label V
-    D = table K (put_mid s (s + k - s) xs zs)
+    made_long : length made_here ≡ u
+    made_long = length-map used_here f ∙ here_long
 
     in_front : length (take s xs) ≡ s
     in_front = length-take-le s xs (omega arith)
 
-    written_of : (p : ℕ) → In k t p → D p ≡ table K zs (p - s)
-    written_of p at =
-        get_or-append_right (take s xs) _ s p (blank K) in_front (omega (arith, at.0)) ∙ get_or_append_left zs _ (blank K) (p - s) (omega (arith, size, at.0, at.1))
+    written_of : (p : ℕ) → s ≤ p → p < s + u → slot K made_all p ≡ slot K made_here (p - s)
+    written_of p low high =
+        get_or-append_right (take s xs) _ s p (blank_slot K) in_front low ∙ get_or_append_left made_here _ (blank_slot K) (p - s) (omega (arith, made_long))
 
-    written_off : (p : ℕ) → (In k t p → ⊥) → D p ≡ table K xs p
-    written_off p off =
+    pub made_in : (p : ℕ) → s ≤ p → p < s + u → slot K made_all p ≡ f (slot K xs p)
+    made_in p low high =
+        written_of p low high ∙ get_or-map f used_here (p - s) (blank_slot K) (blank_slot K) (omega (arith, here_long)) ∙ ap f (here_of p low high)
+
+    pub made_off : (p : ℕ) → (p < s) ⊎ (s + u ≤ p) → slot K made_all p ≡ slot K xs p
+    made_off p out =
         ⊎_elim
-        (λ low. get_or_append_left (take s xs) _ (blank K) p (omega (arith, in_front)) ∙ get_or-take s xs p (blank K) low)
-        (λ ge. let high : s + k ≤ p = ⊎_elim (λ lt. absurd (off (omega arith, omega arith))) (λ le. le) (cases_lt p (s + k)) in
-        get_or-append_right (take s xs) _ s p (blank K) in_front ge ∙ get_or-append_right zs _ k (p - s) (blank K) size (omega arith)
-        ∙ get_or-drop (s + k - s) (drop s xs) (p - s - k) (blank K) ∙ get_or-drop s xs (s + k - s + (p - s - k)) (blank K) ∙ ap (table K xs) (omega arith))
+        (λ low. get_or_append_left (take s xs) _ (blank_slot K) p (omega (arith, in_front)) ∙ get_or-take s xs p (blank_slot K) low)
+        (λ high. get_or-append_right (take s xs) _ s p (blank_slot K) in_front (omega arith) ∙ get_or-append_right made_here _ u (p - s) (blank_slot K) made_long (omega arith)
+        ∙ get_or-drop (s + u - s) (drop s xs) (p - s - u) (blank_slot K) ∙ get_or-drop s xs (s + u - s + (p - s - u)) (blank_slot K) ∙ ap (slot K xs) (omega arith))
+        out
+
+    -- a place is one of them, or stays
+    made_either : (p : ℕ) → ((s ≤ p) × (p < s + u) × (slot K made_all p ≡ f (slot K xs p))) ⊎ (slot K made_all p ≡ slot K xs p)
+    made_either p =
+        ⊎_elim
+        (λ low. inr (made_off p (inl low)))
+        (λ ge. ⊎_elim (λ lt. inl (ge, lt, made_in p ge lt)) (λ high. inr (made_off p (inr high))) (cases_lt p (s + u)))
         (cases_lt p s)
 
-  -- a newcomer takes the first free place of them
-  pub put_here : (y : Label V) (zs : List (Label V)) (x : ℕ) → position is_free (swept K here y) ≡ Some x → zs ≡ set (swept K here y) x y → Adds K (table K xs) (table K (put_mid s (s + k - s) xs zs)) (t * k) (t * k + k) (s + x) y
-  put_here y zs x found made =
-      let ws = swept K here y in
-      let hit = position-Some is_free ws x (blank K) found in
-      let within : x < k = omega (arith, swept_long y, hit.0) in
-      let size = ap length made ∙ length-set ws x y ∙ swept_long y in
-      let place : In k t (s + x) = (omega arith, omega arith) in
-      let at_place : (p : ℕ) → In k t p → D zs size p ≡ table K (set ws x y) (p - s) = λ p at. written_of zs size p at ∙ ap (λ vs. table K vs (p - s)) made in
-      let elsewhere : (p : ℕ) → In k t p → (p ≡ s + x → ⊥) → D zs size p ≡ cleared K y.value (table K xs p) = λ p at ne. at_place p at ∙ table_other K ws x y (p - s) (λ e. ne (omega (arith, at.0))) ∙ swept_of y p at in
-      let back : s + x - s ≡ x = omega arith in
-      let free = cleared_free K y.value (table K xs (s + x)) (rw (swept_of y (s + x) place) at (rw (← back) at (not-true _ hit.1))) in
-      record {
-        inside = place;
-        new = at_place (s + x) place ∙ rw back (table_same K ws x y hit.0);
-        free = free.0;
-        gone = free.1;
-        other = λ p ne. ⊎_elim
-            (λ low. inl (written_off zs size p (λ at. absurd (omega (arith, at.0)))))
-            (λ ge. ⊎_elim
-            (λ lt. let e = elsewhere p (ge, lt) ne in
-            ⊎_elim
-            (λ f. let parts = and_parts _ _ f.0 in inr (parts.1, (ge, lt), parts.0, ap (λ z. is_held z.state) (e ∙ f.1)))
-            (λ f. inl (e ∙ f.1))
-            (cleared_cases K y.value (table K xs p)))
-            (λ past. inl (written_off zs size p (λ at. absurd (omega (arith, at.1)))))
-            (cases_lt p (t * k + k)))
-            (cases_lt p (t * k));
-        left = λ p ne at w. let e = elsewhere p at ne in
-            ⊎_elim
-            (λ f. absurd (false≢true (rw (e, f.1) at w)))
-            (λ f. let here = e ∙ f.1 in rw here ((cleared_held K y.value (table K xs p) (rw e at (waits_held _ w))).1 (rw here at w)))
-            (cleared_cases K y.value (table K xs p));
-      }
+    -- what f leaves of a place stays
+    pub made_stays : {T : Type 0} (h : Slot V → T) → ((x : Slot V) → h (f x) ≡ h x) → (p : ℕ) → h (slot K made_all p) ≡ h (slot K xs p)
+    made_stays h same p = ⊎_elim (λ e. ap h e.2 ∙ same (slot K xs p)) (λ e. ap h e) (made_either p)
 
-  -- they are as they were
-  pub same_here : put_mid s (s + k - s) xs here ≡ xs
-  same_here = ap (λ ws. take s xs ++ ws) (take-append-drop (s + k - s) (drop s xs)) ∙ take-append-drop s xs
+    -- one of them passes a test
+    pub found_here : (test : Slot V → Bool) (x : ℕ) → position test made_here ≡ Some x → (x < u) × (test (slot K made_all (s + x)) ≡ true)
+    found_here test x found =
+        let hit = position-Some test made_here x (blank_slot K) found in
+        let within : x < u = omega (arith, made_long, hit.0) in
+        let back : s + x - s ≡ x = omega arith in
+        (within, ap test (written_of (s + x) (omega arith) (omega arith) ∙ ap (slot K made_here) back) ∙ hit.1)
+
+    -- none of them does
+    pub none_here : (test : Slot V → Bool) → position test made_here ≡ None → (p : ℕ) → s ≤ p → p < s + u → test (slot K made_all p) ≡ false
+    none_here test none p low high =
+        ap test (written_of p low high) ∙ position_none test made_here none (p - s) (blank_slot K) (omega (arith, made_long))
+
+  -- they are freed
+  pub freed_here : (p : ℕ) → s ≤ p → p < s + u → is_held (table K (made_all freed) p).state ≡ false
+  freed_here p low high = ap (λ x. is_held x.label.state) (made_in freed p low high)
+
+  pub freed_back : (p : ℕ) → Held (table K (made_all freed)) p → Held (table K xs) p
+  freed_back p held = ⊎_elim (λ e. absurd (both_ways _ (freed_here p e.0 e.1) held)) (λ e. subst (λ x. is_held x.label.state ≡ true) e held) (made_either freed p)
+
+-- the used places of the site t, from s on, u of the k that it has: the others are free
+module _ {V L : Type 0} (K : Kind V L) (xs : List (Slot V)) (k t s u : ℕ) (first : s ≡ t * k) (few : u ≤ k) (room : s + u ≤ length xs) (past : (p : ℕ) → s + u ≤ p → p < s + k → is_held (table K xs p).state ≡ false) where
+  -- a place of the site is used, or free
+  used_or_free : (p : ℕ) → In k t p → (p < s + u) ⊎ (is_held (table K xs p).state ≡ false)
+  used_or_free p at = ⊎_elim inl (λ ge. inr (past p ge (omega (arith, at.1)))) (cases_lt p (s + u))
+
+  pub dominated_here : (n : V) → list_any (covers K n) (used_here K xs s u room) ≡ true → (p : ℕ) × In k t p × Held (table K xs) p × (K.dominates (table K xs p).value n ≡ true)
+  dominated_here n some =
+      let (p, x, lt, is, covered) = Any-from_list_any (covers K n) (used_here K xs s u room) some in
+      let within : p < u = omega (arith, here_long K xs s u room) in
+      let parts = and_parts _ _ (ap (covers K n) (sym (here_at K xs s u room p within) ∙ get_or_default (used_here K xs s u room) p (blank_slot K) x lt ∙ is) ∙ covered) in
+      (s + p, (omega arith, omega arith), parts.0, parts.1)
+
+  pub fresh_here : (n : V) → list_any (covers K n) (used_here K xs s u room) ≡ false → (p : ℕ) → In k t p → Held (table K xs) p → K.dominates (table K xs p).value n ≡ false
+  fresh_here n none p at held =
+      ⊎_elim
+      (λ lt. ⊎_elim (λ e. absurd (both_ways _ e held)) (λ e. e)
+      (and_cases _ _ (false_from_ne_true _ (λ e. both_ways _ none (list_any_at (covers K n) (used_here K xs s u room) (p - s) (blank_slot K) (omega (arith, here_long K xs s u room, at.0)) (ap (covers K n) (here_of K xs s u room p (omega (arith, at.0)) lt) ∙ e))))))
+      (λ free. absurd (both_ways _ free held))
+      (used_or_free p at)
+
+  module _ (v : V) where
+    -- all places, where the labels that a newcomer of the value v dominates have given up theirs
+    abbrev swept_all : List (Slot V)
+    swept_all = made_all K xs s u room (cleared K v)
+
+    -- a place of the site, used or not
+    swept_in : (p : ℕ) → In k t p → slot K swept_all p ≡ cleared K v (slot K xs p)
+    swept_in p at =
+        ⊎_elim
+        (λ lt. made_in K xs s u room (cleared K v) p (omega (arith, at.0)) lt)
+        (λ ge. made_off K xs s u room (cleared K v) p (inr ge) ∙ sym (cond-false _ _ _ (free_stays K v (slot K xs p) (past p ge (omega (arith, at.1))))))
+        (cases_lt p (s + u))
+
+    swept_off : (p : ℕ) → (In k t p → ⊥) → slot K swept_all p ≡ slot K xs p
+    swept_off p off =
+        made_off K xs s u room (cleared K v) p (⊎_elim (λ low. inl low) (λ ge. ⊎_elim (λ lt. absurd (off (omega arith, omega arith))) (λ high. inr high) (cases_lt p (s + u))) (cases_lt p s))
+
+    pub swept_made : Swept K (slot K xs) (slot K swept_all) k t v × SameUsed (slot K xs) (slot K swept_all)
+    swept_made = (
+      record {
+        here = λ p at. ap (λ x. x.label) (swept_in p at);
+        other = λ p off. ap (λ x. x.label) (swept_off p off);
+        shares = λ p. stays (λ x. x.share) (λ x. refl) p;
+        winners = λ p. (stays (λ x. x.winner) (λ x. refl) p, stays (λ x. x.best) (λ x. refl) p);
+        links = λ p. (stays (λ x. x.first) (λ x. refl) p, stays (λ x. x.next) (λ x. refl) p);
+      },
+      λ p. stays (λ x. x.used) (λ x. refl) p,
+    )
+      where
+        stays : {T : Type 0} (h : Slot V → T) → ((x : Slot V) → h (freed x) ≡ h x) → (p : ℕ) → h (slot K swept_all p) ≡ h (slot K xs p)
+        stays h same = made_stays K xs s u room (cleared K v) h (λ x. ⊎_elim (λ e. ap h e.1 ∙ same x) (λ e. ap h e.1) (cleared_cases K v x))
+
+    -- the first of them that is free, if one is
+    pub swept_found : u ≡ (slot K xs t).used → (r : Option ℕ) → r ≡ position is_free (made_here K xs s u room (cleared K v)) → MatchOption r ((p : ℕ) → t * k ≤ p → p < t * k + (slot K xs t).used → Held (table K swept_all) p) (λ x. (x < (slot K xs t).used) × (is_held (table K swept_all (t * k + x)).state ≡ false))
+    swept_found is None e = λ p low high. not-false _ (none_here K xs s u room (cleared K v) is_free (sym e) p (omega (arith, low)) (omega (arith, high, is)))
+    swept_found is (Some x) e =
+        let (lt, free) = found_here K xs s u room (cleared K v) is_free x (sym e) in
+        (omega (arith, lt, is), subst (λ z. is_held (table K swept_all (z + x)).state ≡ false) first (not-true _ free))
+
+-- of the places of a site, u are used, and the others are free
+module _ {V : Type 0} {A : ℕ → Label V} {W : ℕ → Slot V} {k n : ℕ} (unused : Unused A W k n) (t s u : ℕ) (lt : t < n) (first : s ≡ t * k) (is : u ≡ (W t).used) where
+  pub used_few : u ≤ k
+  used_few = rw is (unused.low t lt)
+
+  pub used_past : (p : ℕ) → s + u ≤ p → p < s + k → is_held (A p).state ≡ false
+  used_past p low high = unused.free t p lt (omega (arith, low, is)) (omega (arith, high))
+
+-- a newcomer comes to a free place of its site, where the labels that it dominates have given up theirs
+module _ {V L : Type 0} (K : Kind V L) {W X : ℕ → Slot V} {k t : ℕ} {v : V} (swept : Swept K W X k t v) where
+  abbrev was : ℕ → Label V
+  was p = (W p).label
+
+  -- a label that is held after the sweep was so before, and is the same
+  pub swept_held : (p : ℕ) → Held (λ q. (X q).label) p → ((X p).label ≡ was p) × (In k t p → Waits was p → K.dominates v (was p).value ≡ false)
+  swept_held p held =
+      ⊎_elim
+      (λ at. ⊎_elim
+      (λ f. absurd (both_ways _ (ap (λ z. is_held z.state) (swept.here p at ∙ ap (λ z. z.label) f.1)) held))
+      (λ f. (swept.here p at ∙ ap (λ z. z.label) f.1, λ _ w. ⊎_elim (λ q. absurd (both_ways _ q w)) (λ d. d) (and_cases _ _ f.0)))
+      (cleared_cases K v (W p)))
+      (λ off. (swept.other p off, λ at. absurd (off at)))
+      (in_or_off k t p)
+
+  -- where no place of the site is free
+  pub swept_full : ((p : ℕ) → In k t p → Held (λ q. (X q).label) p) → (p : ℕ) → In k t p → Held was p × (Waits was p → K.dominates v (was p).value ≡ false)
+  swept_full all p at = let h = swept_held p (all p at) in (rw (h.0) at (all p at), h.1 at)
+
+  -- where the newcomer y comes to the free place x
+  pub swept_adds : (C : ℕ → Label V) (x : ℕ) (y : Label V) → y.value ≡ v → In k t x → is_held (X x).label.state ≡ false → C x ≡ y → ((p : ℕ) → (p ≡ x → ⊥) → C p ≡ (X p).label) → Adds K was C (t * k) (t * k + k) x y
+  swept_adds C x y val at free here other =
+      let gone = cleared_free K v (W x) (rw (swept.here x at) at free) in
+      record {
+        inside = at;
+        new = here;
+        free = gone.0;
+        gone = λ held. rw val (gone.1 held);
+        other = λ p ne. ⊎_elim
+            (λ ap_p. ⊎_elim
+            (λ f. let parts = and_parts _ _ f.0 in
+            inr (rw val (parts.1), ap_p, parts.0, ap (λ z. is_held z.state) (other p ne ∙ swept.here p ap_p ∙ ap (λ z. z.label) f.1)))
+            (λ f. inl (other p ne ∙ swept.here p ap_p ∙ ap (λ z. z.label) f.1))
+            (cleared_cases K v (W p)))
+            (λ off. inl (other p ne ∙ swept.other p off))
+            (in_or_off k t p);
+        left = λ p ne in_p w.
+            let e = other p ne in
+            let h = swept_held p (rw e at (waits_held _ w)) in
+            rw (val, e, h.0) (h.1 in_p (rw (e, h.0) at w));
+      }

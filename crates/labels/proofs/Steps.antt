@@ -9,8 +9,8 @@ use Rattle.measure.specs.Ranks.{Fit, ranks}
 use Rattle.catalogue.specs.Walks.{extend, Walk}
 use Rattle.catalogue.specs.Routes.{First, Outside, Crowded}
 use Rattle.labels.proofs.Extending.{extend_made, extend_over, rank_extend}
-use Rattle.labels.specs.Labels.{is_queued, is_settled, In, Held, Waits, Done, Off, Chain, path, Has, Kept, Spread, SpreadAll, Last, Settles, Adds, Starts}
-use Rattle.labels.proofs.Cover.{Covered, Covers, goes_more, first_best, none_left}
+use Rattle.labels.specs.Labels.{is_queued, is_settled, In, Held, Waits, Done, Off, Chain, path, Has, Met, Kept, Spread, SpreadAll, Last, Settles, Adds, Starts}
+use Rattle.labels.proofs.Cover.{Covered, Covers, Late, goes_more, first_best, none_left}
 use Rattle.measure.proofs.Ranking.{rank_dom, rank_trans, rank_antisym}
 use Rattle.labels.proofs.Chains.{one_site, at_or, done_held, waits_held, held_cases, not_both, Same, same_from, chain_keep, chain_walk, chain_off}
 
@@ -43,6 +43,10 @@ module _ {V L : Type 0} {K : Kind V L} (laws : Laws K) {l : L} (adm : K.limit_ad
     settle_has t w (p, at, held, d) =
         (p, at, at_or (Held B) h (done_held _ (settle_done steps)) p (λ ne. rw (steps.other p ne) held), rw (settle_same steps p).value d)
 
+    settle_met : (In k dst h → ⊥) → (t : ℕ) (w : V) → Met K l Lead k src dst A t w → Met K l Lead k src dst B t w
+    settle_met off t w (inl has) = inl (settle_has t w has)
+    settle_met off t w (inr (q, at, waiting, r)) = let same = steps.other q (λ e. off (rw e at at)) in inr (q, at, rw same waiting, rw same r)
+
     -- it ranks no earlier than those that were settled before
     settle_order : (p q : ℕ) → Done B p → Waits A q → ranks K l (A q).value (A p).value ≡ false
     settle_order p q d w = ⊎_elim (λ da. kept.ordered p q da w) (λ e. rw e (first q w)) (settle_back steps p d)
@@ -61,11 +65,11 @@ module _ {V L : Type 0} {K : Kind V L} (laws : Laws K) {l : L} (adm : K.limit_ad
     settle_last p d = rw ((settle_same steps h).value, (settle_same steps p).value) (settle_order p h d waits)
 
     -- where what every settled label reaches was held
-    pub settle_spread : SpreadAll K l Lead k src dst A → Spread K l Lead k src dst B h 0
-    settle_spread all p s j t c d at lead low fits =
+    pub settle_spread : (In k dst h → ⊥) → SpreadAll K l Lead k src dst A → Spread K l Lead k src dst B h 0
+    settle_spread off all p s j t c d at lead low fits =
         rw (settle_same steps p).value
         (⊎_elim
-        (λ da. settle_has t (extend K (A p).value c) (all p s j t c da at lead (rw (settle_same steps p).value at fits)))
+        (λ da. settle_met off t (extend K (A p).value c) (all p s j t c da at lead (rw (settle_same steps p).value at fits)))
         (λ same. let none = low same in absurd (omega arith))
         (settle_back steps p d))
 
@@ -182,6 +186,21 @@ module _ {V L : Type 0} {K : Kind V L} (laws : Laws K) {l : L} (adm : K.limit_ad
           over : {y : V} → In k u x → K.dominates n y ≡ true → K.dominates y w ≡ true → Made K y → Has K l Lead k src dst C u w
           over {y} ux ny yw my = (x, ux, waits_held _ add_waits, rw add_value (laws.dom_trans n y w fit_n.made my mw ny yw))
 
+      -- a label at the destination that gives up its place does so to one that ranks no later
+      add_met : (u : ℕ) (w : V) → Fit K l w → Met K l Lead k src dst A u w → Met K l Lead k src dst C u w
+      add_met u w fw (inl has) = inl (add_has u w fw.made has)
+      add_met u w fw (inr (q, at_q, waiting, r)) =
+          ⊎_elim
+          (λ e. over (rw e at at_q) (adds.gone (rw e at (waits_held _ waiting))) (rw e at (kept.fit q (waits_held _ waiting))) (rw e at r))
+          (λ ne. ⊎_elim
+          (λ e. inr (q, at_q, rw e waiting, rw e r))
+          (λ g. over (subst (λ y. In k y x) (one_site k t dst q g.1 at_q) adds.inside) g.0 (kept.fit q (waits_held _ waiting)) r)
+          (adds.other q ne))
+          (cases_eq q x)
+        where
+          over : {y : V} → In k dst x → K.dominates n y ≡ true → Fit K l y → ranks K l w y ≡ false → Met K l Lead k src dst C u w
+          over {y} dx ny fy later = inr (x, dx, add_waits, rw add_value (rank_trans laws l adm n y w fit_n fy fw (rank_dom laws l adm n y fit_n fy ny) later))
+
       add_kept : Kept K l Lead k src dst C
       add_kept = record {
         fit = λ p held. ⊎_elim (λ e. rw e (rw add_value fit_n)) (λ g. rw (g.1) (kept.fit p (rw (g.1) at held))) (add_held p held);
@@ -237,15 +256,15 @@ module _ {V L : Type 0} {K : Kind V L} (laws : Laws K) {l : L} (adm : K.limit_ad
           let e = add_back p d in
           let da = add_done_back p d in
           let fit' = rw e at fit in
-          let mj = extend_made K (A p).value b (kept.fit p (done_held _ da)).made (links j u v b ld) in
+          let fj : Fit K l (extend K (A p).value b) = record { made = extend_made K (A p).value b (kept.fit p (done_held _ da)).made (links j u v b ld); within = fit' } in
           rw e
           (⊎_elim
           (λ ph. ⊎_elim
           (λ ji. let (vt, bc) = only i s t u v c b lead (subst (λ y. Lead y u v b) ji ld) in
-          subst₂ (λ y z. Has K l Lead k src dst C y (extend K (A z).value b)) vt (sym ph) (subst (λ y. Has K l Lead k src dst C t (extend K (A h).value y)) bc held_n))
-          (λ ne. add_has v (extend K (A p).value b) mj (spread p u j v b da ap ld (λ e. let lt = low e in let less : j < i = omega arith in less) fit'))
+          subst₂ (λ y z. Met K l Lead k src dst C y (extend K (A z).value b)) vt (sym ph) (subst (λ y. Met K l Lead k src dst C t (extend K (A h).value y)) bc (inl held_n)))
+          (λ ne. add_met v (extend K (A p).value b) fj (spread p u j v b da ap ld (λ e. let lt = low e in let less : j < i = omega arith in less) fit'))
           (cases_eq j i))
-          (λ ne. add_has v (extend K (A p).value b) mj (spread p u j v b da ap ld (λ e. absurd (ne e)) fit'))
+          (λ ne. add_met v (extend K (A p).value b) fj (spread p u j v b da ap ld (λ e. absurd (ne e)) fit'))
           (cases_eq p h))
         where
           held_n : Has K l Lead k src dst C t n
@@ -255,8 +274,8 @@ module _ {V L : Type 0} {K : Kind V L} (laws : Laws K) {l : L} (adm : K.limit_ad
       pub added : ((j s t s' t' : ℕ) (c c' : V) → Lead j s t c → Lead j s' t' c' → (t ≡ t') × (c ≡ c')) → Spread K l Lead k src dst A h i → Kept K l Lead k src dst C × Done C h × Last K l Lead k src dst C h × Spread K l Lead k src dst C h (i + 1)
       added only spread = (add_kept, add_done_on h done, λ p d. rw (add_done h done, add_back p d) (last p (add_done_back p d)), add_spread only spread)
 
--- the link at i brings nothing, or what it brings is held
-pub skip_spread : {V L : Type 0} (K : Kind V L) (l : L) (Lead : ℕ → ℕ → ℕ → V → Type 0) (k src dst : ℕ) (A : ℕ → Label V) (h i : ℕ) → Spread K l Lead k src dst A h i → ((s t : ℕ) (c : V) → In k s h → Lead i s t c → K.within (extend K (A h).value c) l ≡ true → Has K l Lead k src dst A t (extend K (A h).value c)) → Spread K l Lead k src dst A h (i + 1)
+-- the link at i brings nothing, or what it brings need not be held
+pub skip_spread : {V L : Type 0} (K : Kind V L) (l : L) (Lead : ℕ → ℕ → ℕ → V → Type 0) (k src dst : ℕ) (A : ℕ → Label V) (h i : ℕ) → Spread K l Lead k src dst A h i → ((s t : ℕ) (c : V) → In k s h → Lead i s t c → K.within (extend K (A h).value c) l ≡ true → Met K l Lead k src dst A t (extend K (A h).value c)) → Spread K l Lead k src dst A h (i + 1)
 skip_spread K l Lead k src dst A h i spread here p s j t c d at lead low fits =
     ⊎_elim
     (λ e. ⊎_elim
@@ -266,7 +285,7 @@ skip_spread K l Lead k src dst A h i spread here p s j t c d at lead low fits =
     (λ ne. spread p s j t c d at lead (λ e. absurd (ne e)) fits)
     (cases_eq p h)
 
--- The end of the search, where what every settled label reaches is held.
+-- The end of the search, where what every settled label reaches is held or need not be.
 module _ {V L : Type 0} {K : Kind V L} (laws : Laws K) {l : L} (adm : K.limit_admitted l ≡ true) {Lead : ℕ → ℕ → ℕ → V → Type 0} (links : (p s t : ℕ) (c : V) → Lead p s t c → Made K c) {k src dst : ℕ} {A : ℕ → Label V} (kept : Kept K l Lead k src dst A) (all : SpreadAll K l Lead k src dst A) where
   abbrev At : (ℕ → Type 0) → ℕ → V → Type 0
   At P s v = (p : ℕ) × In k s p × P p × ((A p).value ≡ v)
@@ -274,13 +293,17 @@ module _ {V L : Type 0} {K : Kind V L} (laws : Laws K) {l : L} (adm : K.limit_ad
   table_has : (t : ℕ) (w : V) → Has K l Lead k src dst A t w → Covered K l Lead src (At (Waits A)) (At (Done A)) t w
   table_has t w (p, ap, held, d) = ((A p).value, ⊎_elim (λ w. inl (p, ap, w, refl)) (λ d. inr (p, ap, d, refl)) (held_cases _ held), d)
 
+  table_met : (t : ℕ) (w : V) → Met K l Lead k src dst A t w → Covered K l Lead src (At (Waits A)) (At (Done A)) t w ⊎ Late K l Lead src (At (Waits A)) (At (Done A)) w
+  table_met t w (inl has) = inl (table_has t w has)
+  table_met t w (inr (q, at, waiting, r)) = inr (dst, (A q).value, (q, at, waiting, refl), r)
+
   table_covers : Covers K l Lead src (At (Waits A)) (At (Done A))
   table_covers = record {
     queued_fit = λ s v q. subst (Fit K l) q.3 (kept.fit q.0 (waits_held _ q.2));
     settled_fit = λ s v q. subst (Fit K l) q.3 (kept.fit q.0 (done_held _ q.2));
     start = table_has src K.empty kept.start;
     spread = λ s h q p t c lead fits.
-        table_has t (extend K h c) (subst (λ y. Has K l Lead k src dst A t (extend K y c)) q.3 (all q.0 s p t c q.2 q.1 lead (rw (q.3) fits)));
+        table_met t (extend K h c) (subst (λ y. Met K l Lead k src dst A t (extend K y c)) q.3 (all q.0 s p t c q.2 q.1 lead (rw (q.3) fits)));
   }
 
   none_done : (v : V) → At (Done A) dst v → ⊥

@@ -9,7 +9,7 @@ use Rattle.catalogue.proofs.Short.{short}
 use Rattle.labels.specs.declared.Label.{Label}
 use Rattle.labels.specs.Labels.{In, Held, Off, Chain, Kept, Avoids, Traced}
 use Rattle.labels.proofs.Chains.{one_site, done_held}
-use Rattle.labels.proofs.Finding.{leads_one, holds_inside}
+use Rattle.labels.proofs.Finding.{leads_one}
 
 -- the labels before q are not at its site
 chain_off_site : {V L : Type 0} (K : Kind V L) (cat : List (Option (Link V))) (k src : ℕ) (A : ℕ → Label V) (qs : List ℕ) (q t : ℕ) → In k t q → Chain K (Holds cat) k src A qs q → Off k t qs
@@ -81,10 +81,6 @@ module _ {V L : Type 0} {K : Kind V L} {cat : List (Option (Link V))} {k src dst
           })
 
 module _ {V L : Type 0} {K : Kind V L} {sites : ℕ} {cat : List (Option (Link V))} (sound : Sound K sites cat) {k src dst : ℕ} {A : ℕ → Label V} {w : V} {q : ℕ} where
-  -- a leg is a place of the catalogue
-  pub traced_leg : {leg : ℕ} {rest : List ℕ} → Traced K cat k src dst A w q (leg ∷ rest) → leg < length cat
-  traced_leg {leg} tr = holds_inside cat leg tr.site _ _ tr.goes.2
-
   -- a walk of some legs has fewer than there are sites
   pub traced_short : (rest : List ℕ) → 0 < length rest → Traced K cat k src dst A w q rest → length rest < sites
   traced_short [] some tr = absurd (omega arith)

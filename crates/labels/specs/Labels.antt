@@ -1,6 +1,6 @@
 -- The labels of routing, as a table from places to labels, and what is kept of them from turn to turn. All of this serves the proof of routing:
 -- what it promises in the end is said of walks alone.
-use Rattle.std.specs.Prelude.{◌≡◌, ℕ, ◌+◌, ◌*◌, ◌<◌, ◌≤◌, Bool, true, false, not, cond, ◌&&◌, ◌⊎◌, List, [], ◌∷◌, ◌++◌, Some, None, Option, MatchOption, ◌≢◌, slice_index_or}
+use Rattle.std.specs.Prelude.{◌≡◌, ℕ, ◌+◌, ◌*◌, ◌<◌, ◌≤◌, Bool, true, false, not, cond, ◌&&◌, ◌⊎◌, List, [], ◌∷◌, ◌++◌, Option, MatchOption, ◌≢◌, slice_index_or}
 use Rattle.measure.specs.Kind.{Kind}
 use Rattle.measure.specs.Ranks.{Fit, ranks}
 use Rattle.catalogue.specs.declared.Link.{Link}
@@ -9,6 +9,7 @@ use Rattle.catalogue.specs.Routes.{First}
 use Rattle.labels.specs.declared.State.{State}
 use Rattle.labels.specs.declared.State.TheVariants.{Free, Queued, Settled}
 use Rattle.labels.specs.declared.Label.{Label}
+use Rattle.labels.specs.declared.Slot.{Slot}
 
 -- a label that is queued or settled
 abbrev pub is_held : State → Bool
@@ -36,9 +37,17 @@ In k s p = (s * k ≤ p) × (p < s * k + k)
 abbrev pub blank : {V L : Type 0} → Kind V L → Label V
 blank K = record { state = Free; value = K.empty; previous = 0; link = 0 }
 
+-- a free place, with nothing noted
+abbrev pub blank_slot : {V L : Type 0} → Kind V L → Slot V
+blank_slot K = record { label = blank K; share = record { top = 0; bottom = 1 }; winner = 0; best = 0; used = 0; first = 0; next = 0 }
+
+-- the places of a workspace; one past the end is free
+abbrev pub slot : {V L : Type 0} → Kind V L → List (Slot V) → ℕ → Slot V
+slot K xs p = slice_index_or xs p (blank_slot K)
+
 -- the labels by place; a place past the end is free
-abbrev pub table : {V L : Type 0} → Kind V L → List (Label V) → ℕ → Label V
-table K xs p = slice_index_or xs p (blank K)
+abbrev pub table : {V L : Type 0} → Kind V L → List (Slot V) → ℕ → Label V
+table K xs p = (slot K xs p).label
 
 module _ {V : Type 0} (A : ℕ → Label V) where
   -- the label at p is held
@@ -79,10 +88,18 @@ module _ {V L : Type 0} (K : Kind V L) (Lead : ℕ → ℕ → ℕ → V → Typ
   path A [] p = []
   path A (q ∷ qs) p = path A qs q ++ ((A p).link ∷ [])
 
+-- a label queued at the site t ranks no later than w
+abbrev pub Beaten : {V L : Type 0} → Kind V L → L → ℕ → (ℕ → Label V) → ℕ → V → Type 0
+Beaten K l k A t w = (q : ℕ) × In k t q × Waits A q × (ranks K l w (A q).value ≡ false)
+
 module _ {V L : Type 0} (K : Kind V L) (l : L) (Lead : ℕ → ℕ → ℕ → V → Type 0) (k src dst : ℕ) where
   -- some label held at t dominates w
   abbrev pub Has : (ℕ → Label V) → ℕ → V → Type 0
   Has A t w = (p : ℕ) × In k t p × Held A p × (K.dominates (A p).value w ≡ true)
+
+  -- some label held at t dominates w, or one queued at the destination ranks no later
+  abbrev pub Met : (ℕ → Label V) → ℕ → V → Type 0
+  Met A t w = Has A t w ⊎ Beaten K l k A dst w
 
   -- what is kept of the labels from turn to turn
   pub record Kept (A : ℕ → Label V) : Type 0 where
@@ -93,13 +110,14 @@ module _ {V L : Type 0} (K : Kind V L) (l : L) (Lead : ℕ → ℕ → ℕ → V
     pub start : Has A src K.empty
     pub ahead : (p : ℕ) → In k dst p → Done A p → ⊥
 
-  -- what the settled labels reach by a link is held, or dominated by what is held; of the label at h, by the links below the place i
+  -- what the settled labels reach by a link is dominated by what is held there, or ranks no earlier than what is queued at the destination;
+  -- of the label at h, by the links below the place i
   abbrev pub Spread : (ℕ → Label V) → ℕ → ℕ → Type 0
-  Spread A h i = (p s j t : ℕ) (c : V) → Done A p → In k s p → Lead j s t c → (p ≡ h → j < i) → K.within (extend K (A p).value c) l ≡ true → Has A t (extend K (A p).value c)
+  Spread A h i = (p s j t : ℕ) (c : V) → Done A p → In k s p → Lead j s t c → (p ≡ h → j < i) → K.within (extend K (A p).value c) l ≡ true → Met A t (extend K (A p).value c)
 
   -- the same for every settled label and every link
   abbrev pub SpreadAll : (ℕ → Label V) → Type 0
-  SpreadAll A = (p s j t : ℕ) (c : V) → Done A p → In k s p → Lead j s t c → K.within (extend K (A p).value c) l ≡ true → Has A t (extend K (A p).value c)
+  SpreadAll A = (p s j t : ℕ) (c : V) → Done A p → In k s p → Lead j s t c → K.within (extend K (A p).value c) l ≡ true → Met A t (extend K (A p).value c)
 
   -- no settled label ranks after the one at h
   abbrev pub Last : (ℕ → Label V) → ℕ → Type 0
@@ -134,30 +152,38 @@ module _ {V L : Type 0} (K : Kind V L) (l : L) (A : ℕ → Label V) where
   abbrev pub FirstBelow : ℕ → Option ℕ → Type 0
   FirstBelow i r = MatchOption r ((q : ℕ) → q < i → Waits A q → ⊥) (Leader i)
 
-  -- whether a value ranks before the leader's, or there is no leader
-  abbrev pub ahead : Option ℕ → V → Bool
-  ahead None v = true
-  ahead (Some b) v = ranks K l v (A b).value
+-- the label at x is held, and its value dominates v
+abbrev pub covers : {V L : Type 0} → Kind V L → V → Slot V → Bool
+covers K v x = is_held x.label.state && K.dominates x.label.value v
 
--- the label x is held, and its value dominates v
-abbrev pub covers : {V L : Type 0} → Kind V L → V → Label V → Bool
-covers K v x = is_held x.state && K.dominates x.value v
+-- the place x is free
+abbrev pub is_free : {V : Type 0} → Slot V → Bool
+is_free x = not (is_held x.label.state)
 
--- the place of the label x is free
-abbrev pub is_free : {V : Type 0} → Label V → Bool
-is_free x = not (is_held x.state)
+-- the label at x gives up its place to a newcomer of the value n
+abbrev pub yields : {V L : Type 0} → Kind V L → V → Slot V → Bool
+yields K n x = is_queued x.label.state && K.dominates n x.label.value
 
--- the label x gives up its place to a newcomer of the value n
-abbrev pub yields : {V L : Type 0} → Kind V L → V → Label V → Bool
-yields K n x = is_queued x.state && K.dominates n x.value
+-- the place with another label
+abbrev pub relabelled : {V : Type 0} → Slot V → Label V → Slot V
+relabelled x y = record { label = y; share = x.share; winner = x.winner; best = x.best; used = x.used; first = x.first; next = x.next }
 
--- the label with its place given up
-abbrev pub freed : {V : Type 0} → Label V → Label V
-freed x = record { state = Free; value = x.value; previous = x.previous; link = x.link }
+-- the place with its label given up
+abbrev pub freed : {V : Type 0} → Slot V → Slot V
+freed x = relabelled x (record { state = Free; value = x.label.value; previous = x.label.previous; link = x.label.link })
 
--- the label after a newcomer of the value n has come to its site
-abbrev pub cleared : {V L : Type 0} → Kind V L → V → Label V → Label V
+-- the place after a newcomer of the value n has come to its site
+abbrev pub cleared : {V L : Type 0} → Kind V L → V → Slot V → Slot V
 cleared K n x = cond (yields K n x) (freed x) x
+
+-- the queued labels of the site t that a newcomer of the value v dominates have given up their places, and all else is as it was, but for how
+-- many of a site's places are used
+pub record Swept {V L : Type 0} (K : Kind V L) (W X : ℕ → Slot V) (k t : ℕ) (v : V) : Type 0 where
+  pub here : (p : ℕ) → In k t p → (X p).label ≡ (cleared K v (W p)).label
+  pub other : (p : ℕ) → (In k t p → ⊥) → (X p).label ≡ (W p).label
+  pub shares : (p : ℕ) → (X p).share ≡ (W p).share
+  pub winners : (p : ℕ) → ((X p).winner ≡ (W p).winner) × ((X p).best ≡ (W p).best)
+  pub links : (p : ℕ) → ((X p).first ≡ (W p).first) × ((X p).next ≡ (W p).next)
 
 -- the same labels are settled in A and in B
 abbrev pub Steady : {V : Type 0} (A B : ℕ → Label V) → Type 0

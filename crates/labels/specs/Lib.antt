@@ -1,1 +1,3 @@
 pub mod Labels
+pub mod Outgoing
+pub mod Tournament

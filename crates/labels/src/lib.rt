@@ -2,6 +2,8 @@
 //! stands below its code, so that a change of the code does not prove it again.
 #![tactic(auto)]
 
+use measure::Ratio;
+
 // What a label's place is used for. A queued label is still to be extended, and may give up its place; a settled one is for good.
 #[derive(Clone, Copy, PartialEq, Eq, Debug)]
 pub enum State {
@@ -16,6 +18,21 @@ pub enum State {
 pub struct Label<M> {
     pub state: State,
     pub value: M,
-    pub previous: usize,
-    pub link: usize,
+    pub previous: u16,
+    pub link: u16,
+}
+
+// A place of the workspace: its label, and spare fields, in which routing keeps what it needs to find a label or a link without looking at
+// all. `share` is the ratio of the label's value; the others are notes for what has the place's number among its kind: `winner` for the
+// node of a tournament between the sites, `best`, `used` and `first` for a site (the place of its queued label of first rank, how many of
+// its places were ever used, its first link), `next` for a link (the next link from the same site).
+#[derive(Clone, Copy, PartialEq, Eq, Debug)]
+pub struct Slot<M> {
+    pub label: Label<M>,
+    pub share: Ratio,
+    pub winner: u16,
+    pub best: u16,
+    pub used: u16,
+    pub first: u16,
+    pub next: u16,
 }
