@@ -13,12 +13,12 @@ use Rattle.routing.specs.Searching.{row_of, route_causes, Answered}
 use Rattle.report.specs.declared.Mark.TheVariants.{Standing, Doubtful}
 use Rattle.report.specs.Refusals.{topmost, unless, filled_or}
 use Rattle.catalogue.specs.Places.{at}
-use Rattle.labels.specs.declared.Label.{Label}
+use Rattle.labels.specs.declared.Slot.{Slot}
 use Rattle.cards.specs.declared.Card.{Card}
 use Rattle.cards.specs.Books.{Network, Book}
 use Rattle.cards.specs.Calls.{Emptied, differ, of_ask, ends_out, limit_out, quote_causes, recheck_causes, Quoted, quoted, quote_full, Rechecked, rechecked, recheck_full}
 use Rattle.cards.proofs.Clearing.{cleared}
-use Rattle.book.proofs.Refusing.{first_passed, filled_refused, filled_passed}
+use Rattle.book.proofs.Refusing.{first_passed, unless_tells, filled_refused, filled_passed}
 use Rattle.book.specs.Answers.{RowAnswer, CardAnswer}
 
 -- a part written back where it came from
@@ -47,16 +47,16 @@ module _ {V L : Type 0} (K : Kind V L) (n : Network V) (k : ℕ) (ask : Ask L) (
       (site, full, crowded, put ∙ ap (λ xs. paste rows start xs width) left ∙ paste_back rows row start width fits is)
 
 -- an outcome at what equals its answer and the quote book that it leaves
-pub moved : {V L : Type 0} (P : Result (Option (Route V)) Refusal → Book V L → List (Label V) → Type 0) {r r' : Result (Option (Route V)) Refusal} {b b' : Book V L} {labels : List (Label V)} → r' ≡ r → b' ≡ b → P r b labels → P r' b' labels
+pub moved : {V L : Type 0} (P : Result (Option (Route V)) Refusal → Book V L → List (Slot V) → Type 0) {r r' : Result (Option (Route V)) Refusal} {b b' : Book V L} {labels : List (Slot V)} → r' ≡ r → b' ≡ b → P r b labels → P r' b' labels
 moved P {r} {r'} {b} {b'} {labels} er eb h = subst (λ x. P x b' labels) (sym er) (subst (λ x. P r x labels) (sym eb) h)
 
-module _ {V L : Type 0} {K : Kind V L} {n : Network V} {b : Book V L} {labels : List (Label V)} {card : ℕ} where
-  pub quoted_so : {ask : Ask L} {k : ℕ} (r : Result (Option (Route V)) Refusal) {b' : Book V L} {labels' : List (Label V)} → topmost (quote_causes K n b (length labels) card ask k) ≡ None →
+module _ {V L : Type 0} {K : Kind V L} {n : Network V} {b : Book V L} {labels : List (Slot V)} {card : ℕ} where
+  pub quoted_so : {ask : Ask L} {k : ℕ} (r : Result (Option (Route V)) Refusal) {b' : Book V L} {labels' : List (Slot V)} → topmost (quote_causes K n b (length labels) card ask k) ≡ None →
       Emptied K labels' → CardAnswer K n k ask Standing b card r b' → Quoted K n b labels card ask k r b' labels'
   quoted_so {ask} {k} (Ok answer) {labels' = labels'} free empty (legs, found, is) = moved (Quoted K n b labels card ask k) refl is (quoted answer legs labels' free found empty)
   quoted_so {ask} {k} (Err why) {labels' = labels'} free empty (site, full, crowded, is) = moved (Quoted K n b labels card ask k) (ap Err full) is (quote_full site labels' free crowded empty)
 
-  pub rechecked_so : {k : ℕ} (it : Card V L) (r : Result (Option (Route V)) Refusal) {b' : Book V L} {labels' : List (Label V)} → topmost (recheck_causes K n b (length labels) card k) ≡ None →
+  pub rechecked_so : {k : ℕ} (it : Card V L) (r : Result (Option (Route V)) Refusal) {b' : Book V L} {labels' : List (Slot V)} → topmost (recheck_causes K n b (length labels) card k) ≡ None →
       at b.cards card ≡ Some it → it.mark ≡ Doubtful → Emptied K labels' → CardAnswer K n k it.ask Standing b card r b' → Rechecked K n b labels card k r b' labels'
   rechecked_so {k} it (Ok answer) {labels' = labels'} free here doubtful empty (legs, found, is) = moved (Rechecked K n b labels card k) refl is (rechecked it answer legs labels' free here doubtful found empty)
   rechecked_so {k} it (Err why) {labels' = labels'} free here doubtful empty (site, full, crowded, is) = moved (Rechecked K n b labels card k) (ap Err full) is (recheck_full it site labels' free here doubtful crowded empty)
@@ -95,3 +95,12 @@ module _ {V L : Type 0} (K : Kind V L) (n : Network V) (b : Book V L) (card room
         free = cond-false _ _ _ (ap (of_ask (ends_out n)) (sym here) ∙ no.1.1.0) ∙ cond-false _ _ _ (ap (of_ask (limit_out K)) (sym here) ∙ no.1.1.1.0)
             ∙ cond-false _ _ _ no.1.1.1.1.1.0 ∙ cond-false _ _ _ (le-ltb _ _ wide);
       }
+
+  -- what is asked of routing where a quote is not refused
+  pub quote_free : (ask : Ask L) → ◌≡◌ {A = Result (Unit {0}) Refusal} (Ok tt) (unless (topmost (drop 1 (quote_causes K n b room card ask k))) (Ok tt)) → topmost (route_causes K n.sites room k ask b.width) ≡ None
+  quote_free ask e =
+      let causes = drop 1 (quote_causes K n b room card ask k) in
+      let no = cleared (quote_causes K n b room card ask k) (first_passed (differ n b) causes sites ∙ unless_tells (topmost causes) (Ok tt) e) in
+      let width : b.width ≡ n.sites = eqb-true _ _ (not-false _ no.0) in
+      let wide : n.sites ≤ b.width = omega (arith, width) in
+      cond-false _ _ _ no.1.1.0 ∙ cond-false _ _ _ no.1.1.1.0 ∙ cond-false _ _ _ no.1.1.1.1.1.0 ∙ cond-false _ _ _ (le-ltb _ _ wide)

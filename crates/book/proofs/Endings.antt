@@ -11,7 +11,7 @@ use Rattle.report.specs.declared.Refusal.{Refusal}
 use Rattle.report.specs.declared.Refusal.TheVariants.{CardEmpty, ReplyTooShort}
 use Rattle.report.specs.Refusals.{topmost, unless, filled_or}
 use Rattle.catalogue.specs.Places.{at}
-use Rattle.labels.specs.declared.Label.{Label}
+use Rattle.labels.specs.declared.Slot.{Slot}
 use Rattle.routing.specs.declared.Ask.{Ask}
 use Rattle.routing.specs.declared.Route.{Route}
 use Rattle.cards.specs.declared.Card.{Card}
@@ -34,7 +34,7 @@ recheck_answer K n b room card k = unless (topmost (drop 1 (recheck_causes K n b
 abbrev card_answer : {V L : Type 0} → Book V L → ℕ → Result (Card V L) Refusal
 card_answer b card = unless (topmost (discard_causes b card)) (filled_or CardEmpty (at b.cards card))
 
-module _ {V L : Type 0} {K : Kind V L} {n : Network V} {b : Book V L} {labels : List (Label V)} {card k : ℕ} {ask : Ask L} where
+module _ {V L : Type 0} {K : Kind V L} {n : Network V} {b : Book V L} {labels : List (Slot V)} {card k : ℕ} {ask : Ask L} where
   pub quote_sites : {why : Refusal} → Err why ≡ sites_answer n b → Quoted K n b labels card ask k (Err why) b labels
   quote_sites {why} e = quote_refused why (first_refused (differ n b) (drop 1 (quote_causes K n b (length labels) card ask k)) why e)
 
@@ -44,14 +44,14 @@ module _ {V L : Type 0} {K : Kind V L} {n : Network V} {b : Book V L} {labels : 
       let cs = drop 1 (quote_causes K n b (length labels) card ask k) in
       quote_refused why (first_passed (differ n b) cs e ∙ unless_tells (topmost cs) (Err why) h)
 
-  pub quote_done : {r : Result (Option (Route V)) Refusal} {b' : Book V L} {labels' : List (Label V)} → Ok tt ≡ sites_answer n b →
+  pub quote_done : {r : Result (Option (Route V)) Refusal} {b' : Book V L} {labels' : List (Slot V)} → Ok tt ≡ sites_answer n b →
       Ok tt ≡ quote_answer K n b (length labels) card ask k → Emptied K labels' → CardAnswer K n k ask Standing b card r b' →
       Quoted K n b labels card ask k r b' labels'
   quote_done {r} e h empty answer =
       let cs = drop 1 (quote_causes K n b (length labels) card ask k) in
       quoted_so r (first_passed (differ n b) cs e ∙ unless_tells (topmost cs) (Ok tt) h) empty answer
 
-module _ {V L : Type 0} {K : Kind V L} {n : Network V} {b : Book V L} {labels : List (Label V)} {card k : ℕ} where
+module _ {V L : Type 0} {K : Kind V L} {n : Network V} {b : Book V L} {labels : List (Slot V)} {card k : ℕ} where
   pub recheck_sites : {why : Refusal} → Err why ≡ sites_answer n b → Rechecked K n b labels card k (Err why) b labels
   recheck_sites {why} e = recheck_refused why (first_refused (differ n b) (drop 1 (recheck_causes K n b (length labels) card k)) why e)
 
@@ -71,7 +71,7 @@ module _ {V L : Type 0} {K : Kind V L} {n : Network V} {b : Book V L} {labels : 
           subst (λ a. Rechecked K n b labels card k (Ok a) b labels) answers (still_standing it known.unrefused known.here marks)
       go (Err why) h ok = cc
 
-  pub recheck_done : {ask : Ask L} {r : Result (Option (Route V)) Refusal} {b' : Book V L} {labels' : List (Label V)} → Ok tt ≡ sites_answer n b →
+  pub recheck_done : {ask : Ask L} {r : Result (Option (Route V)) Refusal} {b' : Book V L} {labels' : List (Slot V)} → Ok tt ≡ sites_answer n b →
       is_ok (recheck_answer K n b (length labels) card k) ≡ true → option_map {U = Mark × Ask L} (λ (c : Card V L). (c.mark, c.ask)) (at b.cards card) ≡ Some (Doubtful, ask) →
       Emptied K labels' → CardAnswer K n k ask Standing b card r b' → Rechecked K n b labels card k r b' labels'
   recheck_done {ask} {r} {b'} {labels'} e ok held empty found = go (recheck_answer K n b (length labels) card k) refl ok

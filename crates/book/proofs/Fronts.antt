@@ -1,6 +1,6 @@
 -- The front of a list and what is left of it, where the count may be past the end.
 use Rattle.std.proofs.Common.{◌≡◌, ℕ, ◌-◌, min, List, length, take, drop, sym, ap, ◌∙◌, ⊎_elim, arith}
-use Rattle.std.proofs.lemmas.List.{take_all, drop_all, take_rest}
+use Rattle.std.proofs.lemmas.List.{drop_all, take_rest}
 use Rattle.std.proofs.lemmas.Bool.{cases_lt}
 
 pub drop_min : (n r : ℕ) (xs : List ℕ) → r ≡ min n (length xs) → take (length xs - r) (drop r xs) ≡ drop n xs

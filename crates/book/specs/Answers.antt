@@ -1,5 +1,5 @@
 -- What the parts of the calls leave.
-use Rattle.std.specs.Prelude.{◌≡◌, ℕ, ◌≤◌, List, [], length, Some, Ok, Err, Option, Result, ◌*◌, slice_set}
+use Rattle.std.specs.Prelude.{◌≡◌, ℕ, ◌≤◌, List, length, Some, Ok, Err, Option, Result, ◌*◌, slice_set}
 use Rattle.std.proofs.Math.Seq.{paste}
 use Rattle.measure.specs.Kind.{Kind}
 use Rattle.report.specs.declared.Mark.{Mark}

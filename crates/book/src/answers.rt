@@ -13,7 +13,7 @@ use crate::{QuoteBook, write_place};
 use cards::{Card, MarkEvent};
 use catalogue::{Catalogue, Links};
 use doubt::next_mark;
-use labels::Label;
+use labels::Slot;
 use measure::Measure;
 use report::{Mark, Refusal};
 use routing::{Ask, Route, check_ask, find_route, is_ill_sized};
@@ -75,7 +75,7 @@ fn check_recheck<M: Measure>(
 // Looks for the best route, and writes its legs to the row that begins at the start place: rows lie in one slice, by number.
 fn find_in_row<M: Measure, N: Links<M>>(
     network: &N,
-    labels: &mut [Label<M>],
+    labels: &mut [Slot<M>],
     k: usize,
     ask: Ask<M::Limit>,
     rows: &mut [u16],
@@ -95,7 +95,7 @@ fn find_in_row<M: Measure, N: Links<M>>(
 fn answer_card<M: Measure>(
     catalogue: &Catalogue<'_, M>,
     book: &mut QuoteBook<'_, M, M::Limit>,
-    labels: &mut [Label<M>],
+    labels: &mut [Slot<M>],
     card: usize,
     ask: Ask<M::Limit>,
     k: usize,
@@ -119,7 +119,7 @@ fn answer_card<M: Measure>(
 pub fn quote<M: Measure>(
     catalogue: &Catalogue<'_, M>,
     book: &mut QuoteBook<'_, M, M::Limit>,
-    labels: &mut [Label<M>],
+    labels: &mut [Slot<M>],
     card: usize,
     ask: Ask<M::Limit>,
     k: usize,
@@ -137,7 +137,7 @@ pub fn quote<M: Measure>(
 pub fn recheck<M: Measure>(
     catalogue: &Catalogue<'_, M>,
     book: &mut QuoteBook<'_, M, M::Limit>,
-    labels: &mut [Label<M>],
+    labels: &mut [Slot<M>],
     card: usize,
     k: usize,
 ) -> Result<Option<Route<M>>, Refusal>

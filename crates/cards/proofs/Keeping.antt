@@ -11,7 +11,7 @@ use Rattle.catalogue.specs.declared.Link.{Link}
 use Rattle.catalogue.specs.Places.{at}
 use Rattle.catalogue.specs.Calls.{revalued}
 use Rattle.catalogue.specs.Routes.{Sound, SoundLink}
-use Rattle.labels.specs.declared.Label.{Label}
+use Rattle.labels.specs.declared.Slot.{Slot}
 use Rattle.routing.specs.declared.Ask.{Ask}
 use Rattle.routing.specs.declared.Route.{Route}
 use Rattle.routing.specs.Searching.{row_of}
@@ -163,7 +163,7 @@ module _ {V L : Type 0} {K : Kind V L} (laws : Laws K) {catalogue : List (Option
       renewed kept _ _ (struck_by_withdrawal K place) cards count (ap (λ ls. set ls place None) kept.links) sound' d
       (λ card legs adm calm. withdraw_stands laws n.sites n.links place lt kept.sound card.ask adm card.answer legs sound' calm)
 
-  pub quote_keeps : {labels labels' : List (Label V)} {card : ℕ} {want : Ask L} {k : ℕ} {r : Result (Option (Route V)) Refusal} {b' : Book V L} →
+  pub quote_keeps : {labels labels' : List (Slot V)} {card : ℕ} {want : Ask L} {k : ℕ} {r : Result (Option (Route V)) Refusal} {b' : Book V L} →
       Quoted K n b labels card want k r b' labels' → After K catalogue ask (Quote card want k) (answered r) n b'
   quote_keeps (quote_refused why e) = kept
   quote_keeps (quote_full site labels' e crowded free) = kept
@@ -180,7 +180,7 @@ module _ {V L : Type 0} {K : Kind V L} (laws : Laws K) {catalogue : List (Option
         stands = λ e. found_stands K n want b.width kept.sound answer legs found;
       })
 
-  pub recheck_keeps : {labels labels' : List (Label V)} {card k : ℕ} {r : Result (Option (Route V)) Refusal} {b' : Book V L} →
+  pub recheck_keeps : {labels labels' : List (Slot V)} {card k : ℕ} {r : Result (Option (Route V)) Refusal} {b' : Book V L} →
       Rechecked K n b labels card k r b' labels' → After K catalogue ask (Recheck card k) (answered r) n b'
   recheck_keeps (recheck_refused why e) = kept
   recheck_keeps (still_standing it e here stands) = kept

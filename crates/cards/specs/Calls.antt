@@ -12,7 +12,7 @@ use Rattle.catalogue.specs.Places.{at}
 use Rattle.catalogue.specs.Calls.{store_causes, replace_causes, remove_causes, revalued}
 use Rattle.catalogue.specs.Walks.{Holds}
 use Rattle.catalogue.specs.Routes.{Sound, Best, Outside, Crowded}
-use Rattle.labels.specs.declared.Label.{Label}
+use Rattle.labels.specs.declared.Slot.{Slot}
 use Rattle.labels.specs.Labels.{table, Frees}
 use Rattle.routing.specs.declared.Ask.{Ask}
 use Rattle.routing.specs.declared.Route.{Route}
@@ -99,7 +99,7 @@ abbrev pub Overfull : {V L : Type 0} → Kind V L → Network V → Ask L → �
 Overfull K n ask k site = Crowded K ask.limit (Holds n.links) k ask.source site
 
 -- a workspace with every label free
-abbrev pub Emptied : {V L : Type 0} → Kind V L → List (Label V) → Type 0
+abbrev pub Emptied : {V L : Type 0} → Kind V L → List (Slot V) → Type 0
 Emptied K labels = Frees (table K labels) (length labels)
 
 -- a standing card that was asked this, with this answer
@@ -131,23 +131,23 @@ pub data Withdrawn {V L : Type 0} (K : Kind V L) (n : Network V) (b : Book V L) 
       Withdrawn K n b place (Ok count) (with_links n (slice_set n.links place None)) (with_cards b cards)
 
 -- a quote: the answer, and the quote book and the workspace afterwards
-pub data Quoted {V L : Type 0} (K : Kind V L) (n : Network V) (b : Book V L) (labels : List (Label V)) (card : ℕ) (ask : Ask L) (k : ℕ) : Result (Option (Route V)) Refusal → Book V L → List (Label V) → Type 0 where
+pub data Quoted {V L : Type 0} (K : Kind V L) (n : Network V) (b : Book V L) (labels : List (Slot V)) (card : ℕ) (ask : Ask L) (k : ℕ) : Result (Option (Route V)) Refusal → Book V L → List (Slot V) → Type 0 where
   quote_refused : (why : Refusal) → topmost (quote_causes K n b (length labels) card ask k) ≡ Some why → Quoted K n b labels card ask k (Err why) b labels
-  quote_full : (site : ℕ) (labels' : List (Label V)) → topmost (quote_causes K n b (length labels) card ask k) ≡ None →
+  quote_full : (site : ℕ) (labels' : List (Slot V)) → topmost (quote_causes K n b (length labels) card ask k) ≡ None →
       Overfull K n ask k site → Emptied K labels' → Quoted K n b labels card ask k (Err (LabelsFull site)) b labels'
-  quoted : (answer : Option (Route V)) (legs : List ℕ) (labels' : List (Label V)) → topmost (quote_causes K n b (length labels) card ask k) ≡ None →
+  quoted : (answer : Option (Route V)) (legs : List ℕ) (labels' : List (Slot V)) → topmost (quote_causes K n b (length labels) card ask k) ≡ None →
       Found K n ask answer legs → Emptied K labels' →
       Quoted K n b labels card ask k (Ok answer) (with_card b card (Some (standing_card ask answer)) legs) labels'
 
 -- a recheck: likewise; a standing card is only looked at
-pub data Rechecked {V L : Type 0} (K : Kind V L) (n : Network V) (b : Book V L) (labels : List (Label V)) (card k : ℕ) : Result (Option (Route V)) Refusal → Book V L → List (Label V) → Type 0 where
+pub data Rechecked {V L : Type 0} (K : Kind V L) (n : Network V) (b : Book V L) (labels : List (Slot V)) (card k : ℕ) : Result (Option (Route V)) Refusal → Book V L → List (Slot V) → Type 0 where
   recheck_refused : (why : Refusal) → topmost (recheck_causes K n b (length labels) card k) ≡ Some why → Rechecked K n b labels card k (Err why) b labels
   still_standing : (it : Card V L) → topmost (recheck_causes K n b (length labels) card k) ≡ None →
       at b.cards card ≡ Some it → it.mark ≡ Standing → Rechecked K n b labels card k (Ok it.answer) b labels
-  recheck_full : (it : Card V L) (site : ℕ) (labels' : List (Label V)) → topmost (recheck_causes K n b (length labels) card k) ≡ None →
+  recheck_full : (it : Card V L) (site : ℕ) (labels' : List (Slot V)) → topmost (recheck_causes K n b (length labels) card k) ≡ None →
       at b.cards card ≡ Some it → it.mark ≡ Doubtful → Overfull K n it.ask k site → Emptied K labels' →
       Rechecked K n b labels card k (Err (LabelsFull site)) b labels'
-  rechecked : (it : Card V L) (answer : Option (Route V)) (legs : List ℕ) (labels' : List (Label V)) → topmost (recheck_causes K n b (length labels) card k) ≡ None →
+  rechecked : (it : Card V L) (answer : Option (Route V)) (legs : List ℕ) (labels' : List (Slot V)) → topmost (recheck_causes K n b (length labels) card k) ≡ None →
       at b.cards card ≡ Some it → it.mark ≡ Doubtful → Found K n it.ask answer legs → Emptied K labels' →
       Rechecked K n b labels card k (Ok answer) (with_card b card (Some (standing_card it.ask answer)) legs) labels'
 

@@ -11,7 +11,7 @@ use Rattle.catalogue.specs.Calls.{size_answer, revalued}
 use Rattle.catalogue.specs.Places.{at}
 use Rattle.catalogue.specs.Walks.{Holds, Walk}
 use Rattle.catalogue.specs.Routes.{Outside, Crowded}
-use Rattle.labels.specs.declared.Label.{Label}
+use Rattle.labels.specs.declared.Slot.{Slot}
 use Rattle.routing.specs.declared.Ask.{Ask}
 use Rattle.routing.specs.declared.Route.{Route}
 use Rattle.cards.specs.declared.Call.{Call}
@@ -56,11 +56,11 @@ showing (Err why) = Err why
 
 -- What the caller lends to one call: the labels of a workspace, and the numbers of a reply.
 pub record Lent (V : Type 0) : Type 0 where
-  pub labels : List (Label V)
+  pub labels : List (Slot V)
   pub reply : List ℕ
 
 -- these labels and these numbers, lent to one call
-abbrev pub lent : {V : Type 0} → List (Label V) → List ℕ → Lent V
+abbrev pub lent : {V : Type 0} → List (Slot V) → List ℕ → Lent V
 lent labels reply = record { labels = labels; reply = reply }
 
 -- The full outcome of a call, whichever it is: what it answers, and the memory and what was lent afterwards.
@@ -71,10 +71,10 @@ pub data Outcome {V L : Type 0} (K : Kind V L) (m : Memory V L) (l : Lent V) : C
       Changed K m.network m.book place value r n b → Outcome K m l (Change place value) (counted r) (memory n b) l
   by_withdrawal : {place : ℕ} {r : Result ℕ Refusal} {n : Network V} {b : Book V L} →
       Withdrawn K m.network m.book place r n b → Outcome K m l (Withdraw place) (counted r) (memory n b) l
-  by_quote : {card k : ℕ} {ask : Ask L} {r : Result (Option (Route V)) Refusal} {b : Book V L} {labels : List (Label V)} →
+  by_quote : {card k : ℕ} {ask : Ask L} {r : Result (Option (Route V)) Refusal} {b : Book V L} {labels : List (Slot V)} →
       Quoted K m.network m.book l.labels card ask k r b labels →
       Outcome K m l (Quote card ask k) (answered r) (memory m.network b) (lent labels l.reply)
-  by_recheck : {card k : ℕ} {r : Result (Option (Route V)) Refusal} {b : Book V L} {labels : List (Label V)} →
+  by_recheck : {card k : ℕ} {r : Result (Option (Route V)) Refusal} {b : Book V L} {labels : List (Slot V)} →
       Rechecked K m.network m.book l.labels card k r b labels →
       Outcome K m l (Recheck card k) (answered r) (memory m.network b) (lent labels l.reply)
   by_discard : {card : ℕ} {r : Result (Unit {0}) Refusal} {b : Book V L} →

@@ -4,7 +4,7 @@ use Rattle.measure.specs.Kind.{Kind}
 use Rattle.report.specs.declared.Mark.{Mark}
 use Rattle.report.specs.declared.Refusal.{Refusal}
 use Rattle.catalogue.specs.declared.Link.{Link}
-use Rattle.labels.specs.declared.Label.{Label}
+use Rattle.labels.specs.declared.Slot.{Slot}
 use Rattle.routing.specs.declared.Ask.{Ask}
 use Rattle.routing.specs.declared.Route.{Route}
 use Rattle.cards.specs.declared.Call.{Call}
@@ -29,12 +29,12 @@ module _ {V L : Type 0} {K : Kind V L} {m : Memory V L} {l : Lent V} {call : Cal
   pub on_discard : {b : Book V L} {card : ℕ} {r : Result (Unit {0}) Refusal} → call ≡ Discard card → Discarded m.book card r b → reply ≡ emptied r → Outcome K m l call reply (memory m.network b) l
   on_discard same o is = as_called same is (by_discard o)
 
-module _ {V L : Type 0} {K : Kind V L} {m : Memory V L} {labels : List (Label V)} {numbers : List ℕ} {call : Call V L} {reply : Reply V} where
-  pub on_quote : {b : Book V L} {card k : ℕ} {ask : Ask L} {r : Result (Option (Route V)) Refusal} {labels' : List (Label V)} →
+module _ {V L : Type 0} {K : Kind V L} {m : Memory V L} {labels : List (Slot V)} {numbers : List ℕ} {call : Call V L} {reply : Reply V} where
+  pub on_quote : {b : Book V L} {card k : ℕ} {ask : Ask L} {r : Result (Option (Route V)) Refusal} {labels' : List (Slot V)} →
       call ≡ Quote card ask k → Quoted K m.network m.book labels card ask k r b labels' → reply ≡ answered r → Outcome K m (lent labels numbers) call reply (memory m.network b) (lent labels' numbers)
   on_quote same o is = as_called same is (by_quote o)
 
-  pub on_recheck : {b : Book V L} {card k : ℕ} {r : Result (Option (Route V)) Refusal} {labels' : List (Label V)} →
+  pub on_recheck : {b : Book V L} {card k : ℕ} {r : Result (Option (Route V)) Refusal} {labels' : List (Slot V)} →
       call ≡ Recheck card k → Rechecked K m.network m.book labels card k r b labels' → reply ≡ answered r → Outcome K m (lent labels numbers) call reply (memory m.network b) (lent labels' numbers)
   on_recheck same o is = as_called same is (by_recheck o)
 

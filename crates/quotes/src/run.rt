@@ -7,7 +7,7 @@ use crate::changes::{change, offer, withdraw};
 use book::{QuoteBook, discard, quote, read, recheck};
 use cards::{Answer, Call, Reply};
 use catalogue::Catalogue;
-use labels::Label;
+use labels::Slot;
 use measure::Measure;
 use report::Mark;
 use routing::Route;
@@ -27,7 +27,7 @@ fn standing<M: Copy>(answer: Option<Route<M>>) -> Answer<M>
 fn carry_out<M: Measure>(
     catalogue: &mut Catalogue<'_, M>,
     book: &mut QuoteBook<'_, M, M::Limit>,
-    labels: &mut [Label<M>],
+    labels: &mut [Slot<M>],
     reply: &mut [u16],
     call: Call<M, M::Limit>,
 ) -> Reply<M>
@@ -67,7 +67,7 @@ fn carry_out<M: Measure>(
 pub fn perform<M: Measure>(
     catalogue: &mut Catalogue<'_, M>,
     book: &mut QuoteBook<'_, M, M::Limit>,
-    labels: &mut [Label<M>],
+    labels: &mut [Slot<M>],
     reply: &mut [u16],
     call: Call<M, M::Limit>,
 ) -> Reply<M>

@@ -5,7 +5,7 @@ use Rattle.measure.specs.Kind.{Kind}
 use Rattle.report.specs.declared.Refusal.{Refusal}
 use Rattle.report.specs.Refusals.{topmost, unless}
 use Rattle.catalogue.specs.declared.Link.{Link}
-use Rattle.labels.specs.declared.Label.{Label}
+use Rattle.labels.specs.declared.Slot.{Slot}
 use Rattle.labels.specs.Labels.{table, Frees}
 use Rattle.routing.specs.declared.Ask.{Ask}
 use Rattle.routing.specs.declared.Route.{Route}
@@ -27,6 +27,7 @@ admits K sites room k ask row e =
     let ks = or_parts _ _ sizes.1 in
     record {
       source = leb-false _ _ ends.0;
+      destination = leb-false _ _ ends.1;
       limit = not-false _ limited.0;
       size = eqb-true _ _ (not-false _ sizes.0);
       some = ltb-false k 1 ks.0;
@@ -38,8 +39,8 @@ pub unrefused : (done : Unit {0}) (t : Option Refusal) → ◌≡◌ {A = Result
 unrefused done (Some why) e = cc
 unrefused done None e = refl
 
-module _ {V L : Type 0} (K : Kind V L) (sites : ℕ) (links : List (Option (Link V))) (k : ℕ) (ask : Ask L) (labels : List (Label V)) (row : List ℕ) where
-  abbrev Outcome : List (Label V) → List ℕ → Result (Option (Route V)) Refusal → Option Refusal → Type 0
+module _ {V L : Type 0} (K : Kind V L) (sites : ℕ) (links : List (Option (Link V))) (k : ℕ) (ask : Ask L) (labels : List (Slot V)) (row : List ℕ) where
+  abbrev Outcome : List (Slot V) → List ℕ → Result (Option (Route V)) Refusal → Option Refusal → Type 0
   Outcome labels' row' r t = elim t [
     | Some why ↦ (r ≡ Err why) × (labels' ≡ labels) × (row' ≡ row)
     | None ↦ Frees (table K labels') (length labels') × Answered K sites links k ask row row' r
@@ -52,8 +53,8 @@ module _ {V L : Type 0} (K : Kind V L) (sites : ℕ) (links : List (Option (Link
   pub searched_refused : (why : Refusal) → ◌≡◌ {A = Result (Unit {0}) Refusal} (Err why) (unless (topmost (route_causes K sites (length labels) k ask (length row))) (Ok tt)) → Searched K sites links k ask labels labels row row (Err why)
   searched_refused why e = refused_so why _ e
 
-  pub searched_so : (labels' : List (Label V)) (row' : List ℕ) (r : Result (Option (Route V)) Refusal) → topmost (route_causes K sites (length labels) k ask (length row)) ≡ None → Frees (table K labels') (length labels') → Answered K sites links k ask row row' r → Searched K sites links k ask labels labels' row row' r
+  pub searched_so : (labels' : List (Slot V)) (row' : List ℕ) (r : Result (Option (Route V)) Refusal) → topmost (route_causes K sites (length labels) k ask (length row)) ≡ None → Frees (table K labels') (length labels') → Answered K sites links k ask row row' r → Searched K sites links k ask labels labels' row row' r
   searched_so labels' row' r e free answered = subst (Outcome labels' row' r) (sym e) (free, answered)
 
-  pub searched_free : (labels' : List (Label V)) (row' : List ℕ) (r : Result (Option (Route V)) Refusal) → topmost (route_causes K sites (length labels) k ask (length row)) ≡ None → Searched K sites links k ask labels labels' row row' r → Frees (table K labels') (length labels') × Answered K sites links k ask row row' r
+  pub searched_free : (labels' : List (Slot V)) (row' : List ℕ) (r : Result (Option (Route V)) Refusal) → topmost (route_causes K sites (length labels) k ask (length row)) ≡ None → Searched K sites links k ask labels labels' row row' r → Frees (table K labels') (length labels') × Answered K sites links k ask row row' r
   searched_free labels' row' r e h = subst (Outcome labels' row' r) e h

@@ -1,6 +1,6 @@
 -- A catalogue is sound where each of its places is.
-use Rattle.std.proofs.Common.{true, ◌≡◌, ℕ, ◌<◌, ◌≤◌, List, length, Option, sym, ap, ◌∙◌}
-use Rattle.std.proofs.lemmas.Bool.{and_parts, ltb-true, eq-eqb, both_ways, not-true}
+use Rattle.std.proofs.Common.{true, false, ◌≡◌, ℕ, ◌<◌, ◌≤◌, List, length, Some, None, Option, sym, refl, ap, ◌∙◌}
+use Rattle.std.proofs.lemmas.Bool.{and_parts, and_from, ltb-true, lt-ltb, eq-eqb, ne_eqb, both_ways, not-true}
 use Rattle.measure.specs.Kind.{Kind}
 use Rattle.catalogue.specs.declared.Link.{Link}
 use Rattle.catalogue.specs.Places.{at}
@@ -27,3 +27,14 @@ module _ {V L : Type 0} (K : Kind V L) (sites : ℕ) (links : List (Option (Link
     places_few = few_places;
     each = λ p s t c h. link_sound s t c (sym (ap (sound_at K sites) h) ∙ all p (holds_inside links p s t c h));
   }
+
+  -- a link of a sound catalogue passes
+  sound_passes : (p : ℕ) (o : Option (Link V)) → at links p ≡ o → Sound K sites links → sound_at K sites o ≡ true
+  sound_passes p None is sound = refl
+  sound_passes p (Some link) is sound =
+      let each = sound.each p link.start link.end link.value is in
+      and_from _ _ (lt-ltb _ _ each.start_in) (and_from _ _ (lt-ltb _ _ each.end_in) (and_from _ _ (rw (ne_eqb link.start link.end each.ends_apart) refl) each.admitted))
+
+  -- a place that does not pass is none of a sound catalogue
+  pub unsound_at : (p : ℕ) → sound_at K sites (at links p) ≡ false → Sound K sites links → ⊥
+  unsound_at p fails sound = both_ways _ fails (sound_passes p (at links p) refl sound)

@@ -7,7 +7,10 @@ use Rattle.catalogue.specs.declared.Link.{Link}
 use Rattle.catalogue.specs.Walks.{Holds, Walk, Simple}
 use Rattle.catalogue.specs.Routes.{Outside, Crowded}
 use Rattle.labels.specs.declared.Label.{Label}
-use Rattle.labels.specs.Labels.{Wins}
+use Rattle.labels.specs.declared.Slot.{Slot}
+use Rattle.labels.specs.Labels.{slot, table, Wins}
+use Rattle.labels.specs.Outgoing.{Listed}
+use Rattle.labels.specs.Tournament.{Noted}
 use Rattle.routing.specs.Searching.{row_of}
 use Rattle.routing.specs.declared.Ask.{Ask}
 
@@ -37,8 +40,14 @@ WroteLegs K cat s t w n row r = (legs : List ℕ) × (row ≡ row_of legs n) × 
 -- what a call that is not refused knows of its arguments
 pub record Admits {V L : Type 0} (K : Kind V L) (sites room k : ℕ) (ask : Ask L) (row : ℕ) : Type 0 where
   pub source : ask.source < sites
+  pub destination : ask.destination < sites
   pub limit : K.limit_admitted ask.limit ≡ true
   pub size : room ≡ sites * k
   pub some : 0 < k
   pub few : k ≤ 64
   pub fits : sites ≤ row
+
+-- the notes of a workspace are right: those of its labels, and the lists of the links, where it has as many places as there are for links
+pub record Indexed {V L : Type 0} (K : Kind V L) (l : L) (links : List (Option (Link V))) (slots : List (Slot V)) (k sites : ℕ) : Type 0 where
+  pub noted : Noted K l (table K slots) (slot K slots) k sites
+  pub listed : length links ≤ length slots → Listed links (slot K slots) sites 0

@@ -7,7 +7,7 @@ use Rattle.report.specs.Refusals.{topmost}
 use Rattle.catalogue.specs.declared.Link.{Link}
 use Rattle.catalogue.specs.Walks.{Holds}
 use Rattle.catalogue.specs.Routes.{Sound, Best, Outside, Crowded}
-use Rattle.labels.specs.declared.Label.{Label}
+use Rattle.labels.specs.declared.Slot.{Slot}
 use Rattle.labels.specs.Labels.{table, Frees}
 use Rattle.routing.specs.declared.Ask.{Ask}
 use Rattle.routing.specs.declared.Route.{Route}
@@ -45,7 +45,7 @@ Answered K sites links k ask was is (Err why) =
     Sound K sites links × (is ≡ was) × (site : ℕ) × (why ≡ LabelsFull site) × Crowded K ask.limit (Holds links) k ask.source site
 
 -- the full outcome: a refusal leaves all as it was; otherwise every label is free at the end, and the answer is right
-abbrev pub Searched : {V L : Type 0} → Kind V L → ℕ → List (Option (Link V)) → ℕ → Ask L → List (Label V) → List (Label V) → List ℕ → List ℕ → Result (Option (Route V)) Refusal → Type 0
+abbrev pub Searched : {V L : Type 0} → Kind V L → ℕ → List (Option (Link V)) → ℕ → Ask L → List (Slot V) → List (Slot V) → List ℕ → List ℕ → Result (Option (Route V)) Refusal → Type 0
 Searched K sites links k ask labels labels' row row' r =
     elim (topmost (route_causes K sites (length labels) k ask (length row))) [
       | Some why ↦ (r ≡ Err why) × (labels' ≡ labels) × (row' ≡ row)

@@ -1,23 +1,28 @@
 //! Exact routing: the walk of first rank between two sites within a limit, over anything that answers a catalogue's questions.
 #![tactic(auto)]
 
-ghost use Rattle.std.specs.Prelude.{◌≡◌, true, false, length, Ok};
+ghost use Rattle.std.specs.Prelude.{◌≡◌, ◌*◌, ◌≤◌, length, Ok};
+ghost use Rattle.labels.specs.Outgoing.{Listed};
+ghost use Rattle.labels.specs.Tournament.{Unused};
 ghost use Rattle.report.specs.Refusals.{topmost, unless};
-ghost use Rattle.catalogue.specs.Routes.{Sound};
-ghost use Rattle.labels.specs.Labels.{blank};
-ghost use Rattle.routing.specs.Finds.{sound_link, sound_at, Admits};
-ghost use Rattle.catalogue.specs.Places.{at as place_at};
+ghost use Rattle.labels.specs.Labels.{blank_slot, table, Frees, slot};
+ghost use Rattle.routing.specs.Finds.{Admits};
 ghost use Rattle.routing.specs.Searching.{ill_sized, ask_causes, route_causes, Answered, Searched};
 
-use catalogue::{Link, Links};
+use catalogue::Links;
 use exploration::Exploration;
-use labels::{Label, State};
+use labels::{Label, Slot, State};
 use measure::{Measure, Ratio};
+use outgoing::list_links;
 use report::Refusal;
 use scan::free_all;
+use tournament::Tournament;
 
 mod exploration;
+mod outgoing;
 mod scan;
+mod tournament;
+mod workspace;
 
 // What is asked for: the first walk in rank from the source to the destination within the limit.
 #[derive(Clone, Copy, PartialEq, Eq, Debug)]
@@ -35,46 +40,24 @@ pub struct Route<M> {
     pub ratio: Ratio,
 }
 
-// A label at a free place, to make a workspace of. No `Default`: the crate of labels has no code, and a value is empty by its kind.
-pub fn free_label<M: Measure>() -> Label<M>
-    ensures { result ≡ blank M.Measure.kind }
+// A free place, to make a workspace of. No `Default`: the crate of labels has no code, and a value is empty by its kind.
+pub fn free_slot<M: Measure>() -> Slot<M>
+    ensures { result ≡ blank_slot M.Measure.kind }
 {
-    Label {
-        state: State::Free,
-        value: M::empty(),
-        previous: 0,
-        link: 0,
+    Slot {
+        label: Label {
+            state: State::Free,
+            value: M::empty(),
+            previous: 0,
+            link: 0,
+        },
+        share: Ratio { top: 0, bottom: 1 },
+        winner: 0,
+        best: 0,
+        used: 0,
+        first: 0,
+        next: 0,
     }
-}
-
-// Whether the link may stand in a catalogue of so many sites: what an offer asks of it too, where the first that fails is told.
-fn is_sound_link<M: Measure>(sites: usize, link: Link<M>) -> bool
-    ensures { result ≡ sound_link M.Measure.kind sites link }
-{
-    (link.start as usize) < sites
-        && (link.end as usize) < sites
-        && link.start != link.end
-        && link.value.admitted()
-}
-
-// Whether the place is empty or holds such a link.
-fn is_sound_at<M: Measure, N: Links<M>>(network: &N, sites: usize, place: usize) -> bool
-    ensures { result ≡ sound_at M.Measure.kind sites (place_at (N.Links.links network.now) place) }
-{
-    network
-        .link(place)
-        .is_none_or(|link| is_sound_link(sites, link))
-}
-
-// Whether the network is as a catalogue's calls make it. Routing looks for itself: to open a catalogue asks nothing of its size, and
-// whatever else answers a catalogue's questions is served too.
-fn is_sound<M: Measure, N: Links<M>>(network: &N) -> bool
-    ensures yes { result ≡ true → Sound M.Measure.kind (N.Links.span network.now) (N.Links.links network.now) }
-    ensures no { result ≡ false → Sound M.Measure.kind (N.Links.span network.now) (N.Links.links network.now) → ⊥ }
-{
-    let sites = network.sites();
-    let places = network.places();
-    sites <= 256 && places <= 4096 && (0..places).all(|i| is_sound_at(network, sites, i))
 }
 
 // Whether a workspace of so many labels is not k labels a site, or k is not from 1 to 64. A question, which each call asks among causes of
@@ -118,65 +101,85 @@ fn check<M: Measure>(
     Ok(())
 }
 
-// Routes through the network if it is sound, and writes the legs of the route that it finds. Another, which no call makes, is answered none.
+// Explores a sound network from free places on, and writes the legs of the route that it finds.
+fn first_route<M: Measure, N: Links<M>>(
+    exploration: &Exploration<'_, M, N>,
+    slots: &mut [Slot<M>],
+    row: &mut [u16],
+) -> Result<Option<Route<M>>, Refusal>
+    requires size { length slots.old ≡ exploration.now.tournament.sites * exploration.now.tournament.k }
+    requires free { Frees (table M.Measure.kind slots.old) (length slots.old) }
+    requires listed { length (N.Links.links exploration.now.network.now) ≤ length slots.old → Listed (N.Links.links exploration.now.network.now) (slot M.Measure.kind slots.old) exploration.now.tournament.sites 0 }
+    requires fits { exploration.now.tournament.sites ≤ length row.old }
+    ensures unused { Unused (table M.Measure.kind slots.new) (slot M.Measure.kind slots.new) exploration.now.tournament.k exploration.now.tournament.sites }
+    ensures answered { Answered M.Measure.kind (N.Links.span exploration.now.network.now) (N.Links.links exploration.now.network.now) exploration.now.tournament.k (record { source = exploration.now.source; destination = exploration.now.destination; limit = exploration.now.tournament.limit }) row.old row.new result }
+{
+    let Some(p) = exploration.explore(slots)? else {
+        row.fill(0);
+        return Ok(None);
+    };
+    let legs = exploration.write_legs(slots, p, row);
+    let value = slots[p].label.value;
+    let ratio = value.ratio(exploration.tournament.limit);
+    Ok(Some(Route { legs, value, ratio }))
+}
+
+// Routes through the network if it is sound, and leaves every place free. Another network, which no call makes, is answered none.
 fn find<M: Measure, N: Links<M>>(
     network: &N,
-    labels: &mut [Label<M>],
+    slots: &mut [Slot<M>],
     k: usize,
     ask: Ask<M::Limit>,
     row: &mut [u16],
 ) -> Result<Option<Route<M>>, Refusal>
-    requires { Admits M.Measure.kind (N.Links.span network.now) (length labels.old) k ask (length row.old) }
-    ensures { Answered M.Measure.kind (N.Links.span network.now) (N.Links.links network.now) k ask row.old row.new result }
+    requires { Admits M.Measure.kind (N.Links.span network.now) (length slots.old) k ask (length row.old) }
+    ensures free { Frees (table M.Measure.kind slots.new) (length slots.new) }
+    ensures answered { Answered M.Measure.kind (N.Links.span network.now) (N.Links.links network.now) k ask row.old row.new result }
 {
-    if !is_sound(network) {
+    free_all(slots);
+    if !list_links(network, slots) {
         row.fill(0);
         return Ok(None);
     }
     let exploration = Exploration {
         network,
-        k,
+        tournament: Tournament {
+            sites: network.sites(),
+            k,
+            limit: ask.limit,
+        },
         source: ask.source as usize,
         destination: ask.destination as usize,
-        limit: ask.limit,
     };
-    let Some(p) = exploration.explore(labels)? else {
-        row.fill(0);
-        return Ok(None);
-    };
-    let legs = exploration.write_legs(labels, p, row);
-    let value = labels[p].value;
-    let ratio = value.ratio(ask.limit);
-    Ok(Some(Route { legs, value, ratio }))
+    let answer = first_route(&exploration, slots, row);
+    exploration.tournament.free_used(slots);
+    answer
 }
 
-// Checks the call, routes, and frees the labels that were lent: the body of `find_route`, with answers of its own, so that an edit of
-// `find_route` is refused in the code.
-fn find_and_free<M: Measure, N: Links<M>>(
+// Checks the call, and routes: the body of `find_route`, with answers of its own, so that an edit of `find_route` is refused in the code.
+fn find_checked<M: Measure, N: Links<M>>(
     network: &N,
-    labels: &mut [Label<M>],
+    slots: &mut [Slot<M>],
     k: usize,
     ask: Ask<M::Limit>,
     row: &mut [u16],
 ) -> Result<Option<Route<M>>, Refusal>
-    ensures { Searched M.Measure.kind (N.Links.span network.now) (N.Links.links network.now) k ask labels.old labels.new row.old row.new result }
+    ensures { Searched M.Measure.kind (N.Links.span network.now) (N.Links.links network.now) k ask slots.old slots.new row.old row.new result }
 {
-    check::<M>(network.sites(), labels.len(), k, ask, row.len())?;
-    let answer = find(network, labels, k, ask, row);
-    free_all(labels);
-    answer
+    check::<M>(network.sites(), slots.len(), k, ask, row.len())?;
+    find(network, slots, k, ask, row)
 }
 
 // Finds the walk of first rank from the source to the destination within the limit, with k labels a site, and writes its legs
 // to the row. The labels are lent for this call alone: none is held when it ends.
 pub fn find_route<M: Measure, N: Links<M>>(
     network: &N,
-    labels: &mut [Label<M>],
+    labels: &mut [Slot<M>],
     k: usize,
     ask: Ask<M::Limit>,
     row: &mut [u16],
 ) -> Result<Option<Route<M>>, Refusal>
     ensures { Searched M.Measure.kind (N.Links.span network.now) (N.Links.links network.now) k ask labels.old labels.new row.old row.new result }
 {
-    find_and_free(network, labels, k, ask, row)
+    find_checked(network, labels, k, ask, row)
 }

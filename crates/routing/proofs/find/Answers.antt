@@ -1,27 +1,36 @@
-use Rattle.std.proofs.Common.{sym, subst}
-use Rattle.std.proofs.lemmas.List.{get_or_default}
-use Rattle.catalogue.specs.Walks.{Holds}
-use Rattle.catalogue.specs.Routes.{Best}
-use Rattle.labels.specs.declared.Label.{Label}
-use Rattle.labels.specs.Labels.{blank}
-use Rattle.labels.proofs.Chains.{waits_held}
-use Rattle.labels.proofs.Turns.{held_inside}
+use Rattle.std.proofs.Common.{ℕ, ◌≤◌, replicate, ap, ◌∙◌, arith}
+use Rattle.labels.proofs.Nodes.{sites_few, places_few}
+use Rattle.labels.proofs.Scans.{frees_map}
+use Rattle.labels.proofs.Seeding.{frees_all}
 use Rattle.routing.proofs.find.Goals as goal
 
-pub returns : goal.returns
-returns g c =
+pub list_links-requires : goal.list_links-requires
+list_links-requires g c = omega (arith, c.requires.size, sites_few c.args.k (g.N.Links.span c.args.network.now) c.requires.some)
+
+pub returns-then-not-list_links-clause-free : goal.returns-then-not-list_links-clause-free
+returns-then-not-list_links-clause-free g c p lt =
     let K = g.M.Measure.kind in
-    let ask = c.args.ask in
-    let p = c.in-Some.p in
-    let wins = rw c.in-Some.is at c.in_ok-p.ensures in
-    let held = waits_held _ wins.waits in
-    let here = get_or_default c.explore.new.labels p c.index-labels-p.result (blank K) (held_inside K c.explore.new.labels p held) in
-    let (legs, row, count, walk, simple) = c.write_legs-legs.ensures in (
-      c.is_sound.ensures.yes c.if-not-is_sound.false,
-      legs,
-      row,
-      count,
-      c.ratio-ratio.ensures,
-      subst (λ (y : Label g.row.M.Denot). Best K ask.limit (Holds (g.N.Links.links c.args.network.now)) ask.source ask.destination legs y.value) (sym here)
-          (record { walk = walk; simple = simple; within = (wins.rests.kept.fit p held).within; first = wins.first }),
-    )
+    frees_all K c.free_all.new.slots c.list_links.new.slots (rw c.free_all.ensures (frees_map K c.args.slots.now)) c.list_links.ensures.labels p
+
+pub returns-then-not-list_links-clause-answered : goal.returns-then-not-list_links-clause-answered
+returns-then-not-list_links-clause-answered g c =
+    (c.fill.ensures.after (λ y e. e) ∙ ap (λ (m : ℕ). replicate m 0) (omega arith), λ sound. absurd (c.list_links.ensures.no c.if-not-list_links.true sound))
+
+pub invariant_of-exploration : goal.invariant_of-exploration
+invariant_of-exploration g c =
+    let sound = c.list_links.ensures.yes c.if-not-list_links.false in
+    let few : c.sites.result ≤ 256 = omega (arith, c.sites.ensures, sound.sites_few) in
+    record {
+      admitted = c.requires.limit;
+      some = c.requires.some;
+      any = omega (arith, c.requires.source, c.sites.ensures);
+      few_sites = few;
+      few = places_few c.sites.result c.args.k few c.requires.few;
+      room = sites_few c.args.k c.sites.result c.requires.some;
+      few_labels = c.requires.few;
+    }
+
+pub first_route-answer-requires-clause-free : goal.first_route-answer-requires-clause-free
+first_route-answer-requires-clause-free g c p lt =
+    let K = g.M.Measure.kind in
+    frees_all K c.free_all.new.slots c.list_links.new.slots (rw c.free_all.ensures (frees_map K c.args.slots.now)) c.list_links.ensures.labels p

@@ -1,11 +1,13 @@
-use Rattle.std.proofs.Common.{set, sym, ap, ◌∙◌, arith}
-use Rattle.std.proofs.lemmas.List.Edits.{map_over_more}
-use Rattle.labels.specs.Labels.{cleared}
+use Rattle.std.proofs.Common.{sym, ◌∙◌, inl, inr, arith}
+use Rattle.labels.proofs.Scans.{cleared_more}
 use Rattle.routing.proofs.scan.clear_dominated.Goals as goal
+use Rattle.routing.proofs.scan.clear_dominated.Goals.{then-yields, else-yields}
 
-pub loop-label-preserved : goal.loop-label-preserved
-loop-label-preserved g c =
-    let f = cleared g.M.Measure.kind c.args.value in
-    let ys = c.loop-label.labels in
-    let i = c.loop-label.label-index in
-    ap (set ys i) (c.clear_label.ensures ∙ ap f (sym c.label-item.is)) ∙ map_over_more f c.args.labels.now ys i c.label-item.result (omega arith) c.loop-label.invariant c.label-item.is
+pub loop-slot-preserved : goal.loop-slot-preserved
+loop-slot-preserved g c =
+    let loop = c.loop-slot in
+    cleared_more g.M.Measure.kind c.args.value c.args.slots.now loop.slots c.if-yields.slots loop.slot-index c.slot-item.result (omega arith) loop.invariant c.slot-item.is
+    (elim c.if-yields.branch [
+      | then-yields w ↦ inl (sym c.yields.ensures ∙ w.if-yields.true, w.slots-is)
+      | else-yields w ↦ inr (sym c.yields.ensures ∙ w.if-yields.false, w.slots-is)
+    ])
