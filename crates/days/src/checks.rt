@@ -1,12 +1,12 @@
 //! What the tests share: a day's memory, its calls, and what they answer.
 use cards::{Answer, Call, Card, Reply};
 use catalogue::{Catalogue, Link};
-use labels::Label;
+use labels::Slot;
 use measure::pair::{Trunk, TrunkLimit};
 use measure::{Measure, Ratio};
 use quotes::{QuoteBook, perform};
 use report::Mark;
-use routing::{Ask, Route, free_label};
+use routing::{Ask, Route, free_slot};
 use std::alloc::{AllocError, Allocator};
 use std::fmt::Debug;
 use std::process::Abort;
@@ -37,7 +37,7 @@ pub(crate) struct Memory<M, L, A: Allocator> {
     pub places: Vec<Option<Link<M>>, A>,
     pub cards: Vec<Option<Card<M, L>>, A>,
     pub rows: Vec<u16, A>,
-    pub labels: Vec<Label<M>, A>,
+    pub labels: Vec<Slot<M>, A>,
     pub reply: Vec<u16, A>,
 }
 
@@ -46,7 +46,7 @@ pub(crate) struct Memory<M, L, A: Allocator> {
 pub(crate) struct Day<'a, M, L> {
     pub catalogue: Catalogue<'a, M>,
     pub book: QuoteBook<'a, M, L>,
-    pub labels: &'a mut [Label<M>],
+    pub labels: &'a mut [Slot<M>],
     pub reply: &'a mut [u16],
 }
 
@@ -60,7 +60,7 @@ pub(crate) fn lend<M: Measure, R: Alloc>(
         places: vec![in rt.alloc(); None; sizes.places]?,
         cards: vec![in rt.alloc(); None; sizes.cards]?,
         rows: vec![in rt.alloc(); 7; sizes.cards.saturating_mul(sizes.sites)]?,
-        labels: vec![in rt.alloc(); free_label::<M>(); sizes.labels]?,
+        labels: vec![in rt.alloc(); free_slot::<M>(); sizes.labels]?,
         reply: vec![in rt.alloc(); 9; sizes.reply]?,
     })
 }
@@ -88,7 +88,7 @@ impl<M: Measure, A: Allocator> Memory<M, M::Limit, A> {
 impl<M: Measure + PartialEq + Debug> Day<'_, M, M::Limit> {
     // The calls, one after the other, answer what stands beside them.
     pub(crate) fn check(&mut self, rt: &impl Abort, turns: &[Turn<M, M::Limit>]) {
-        for (turn, (call, want)) in turns.iter().copied().enumerate() {
+        for (turn, &(call, want)) in turns.iter().enumerate() {
             let reply = perform(
                 &mut self.catalogue,
                 &mut self.book,

@@ -1,7 +1,8 @@
 //! What cards, their rows, replies and the workspace hold after the calls on cards.
 use crate::checks::*;
 use cards::{Answer, Call, Card, Reply};
-use labels::{Label, State};
+use labels::{Label, Slot, State};
+use measure::Ratio;
 use measure::pair::{Trunk, TrunkLimit, trunk_limits, trunk_value};
 use quotes::{QuoteBook, quote as quote_card, read as read_card, recheck as recheck_card};
 use report::{Mark, Refusal};
@@ -22,22 +23,30 @@ fn under(source: u16, destination: u16) -> Ask<TrunkLimit> {
     ask(source, destination, trunk_limits(10, 10, 4))
 }
 
-// A label as no call leaves it.
-fn used_label() -> Label<Trunk> {
-    Label {
-        state: State::Settled,
-        value: trunk_value(1, 2, 3),
-        previous: 5,
-        link: 6,
+// A place as no call leaves it, with notes that lead nowhere.
+fn used_slot() -> Slot<Trunk> {
+    Slot {
+        label: Label {
+            state: State::Settled,
+            value: trunk_value(1, 2, 3),
+            previous: 5,
+            link: 6,
+        },
+        share: Ratio { top: 9, bottom: 0 },
+        winner: 60000,
+        best: 60001,
+        used: 60002,
+        first: 60003,
+        next: 60004,
     }
 }
 
-fn check_used(rt: &impl Abort, labels: &[Label<Trunk>]) {
-    assert!(rt; labels.iter().all(|label| *label == used_label()));
+fn check_used(rt: &impl Abort, labels: &[Slot<Trunk>]) {
+    assert!(rt; labels.iter().all(|slot| *slot == used_slot()));
 }
 
-fn check_free(rt: &impl Abort, labels: &[Label<Trunk>]) {
-    assert!(rt; labels.iter().all(|label| label.state == State::Free));
+fn check_free(rt: &impl Abort, labels: &[Slot<Trunk>]) {
+    assert!(rt; labels.iter().all(|slot| slot.label.state == State::Free));
 }
 
 // Site 0 is joined to 1 by link 1, and 1 to 3 by link 2.
@@ -128,7 +137,7 @@ fn from_a_site_to_itself(rt: HostRuntime) -> Result<(), Fail> {
 fn check_recheck(
     rt: &impl Abort,
     day: &mut TrunkDay<'_>,
-    labels: &mut [Label<Trunk>],
+    labels: &mut [Slot<Trunk>],
     card: usize,
     k: usize,
     want: Reply<Trunk>,
@@ -177,7 +186,7 @@ fn readings_at_each_start(rt: HostRuntime) -> Result<(), Fail> {
 #[test]
 fn rechecks_and_the_workspace(rt: HostRuntime) -> Result<(), Fail> {
     let mut memory = lend(&rt, SIZES)?;
-    let mut lent = [used_label(); 8];
+    let mut lent = [used_slot(); 8];
     let mut day = memory.open();
     let best = best(Mark::Standing, 2, trunk_value(6, 6, 1), 6, 10);
     let none = held(Mark::Standing, None);
@@ -200,7 +209,7 @@ fn rechecks_and_the_workspace(rt: HostRuntime) -> Result<(), Fail> {
 #[test]
 fn a_full_site_leaves_card_and_row(rt: HostRuntime) -> Result<(), Fail> {
     let mut memory = lend(&rt, Sizes { labels: 4, ..SIZES })?;
-    let mut lent = [used_label(); 4];
+    let mut lent = [used_slot(); 4];
     let mut day = memory.open();
     let limit = trunk_limits(10, 10, 4);
     let full = Err(Refusal::LabelsFull { site: 1 });
@@ -211,7 +220,7 @@ fn a_full_site_leaves_card_and_row(rt: HostRuntime) -> Result<(), Fail> {
         ),
         (offer(3, 0, 1, trunk_value(4, 6, 1)), counted(1)),
         (recheck(0, 1), full),
-        (quote(1, 0, 1, limit, 1), full),
+        (quote(1, 0, 3, limit, 1), full),
         (
             read(0),
             best(Mark::Doubtful, 2, trunk_value(6, 6, 1), 6, 10),

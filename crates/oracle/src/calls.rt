@@ -6,7 +6,7 @@ use crate::request::Request;
 use crate::turn::Turn;
 use cards::{Answer, Call};
 use catalogue::{Catalogue, Link};
-use labels::Label;
+use labels::Slot;
 use quotes::{QuoteBook, change, discard, offer, perform, quote, read, recheck, withdraw};
 use report::{Mark, Refusal, Returned};
 use routing::{Ask, Route};
@@ -127,7 +127,7 @@ impl<M: Kind> From<Request> for Call<M, M::Limit> {
 fn call_itself<M: Kind>(
     catalogue: &mut Catalogue<'_, M>,
     book: &mut QuoteBook<'_, M, M::Limit>,
-    workspace: &mut [Label<M>],
+    workspace: &mut [Slot<M>],
     reply: &mut [u16],
     request: Request,
 ) -> Result<PlainAnswer, Refusal> {
@@ -159,7 +159,7 @@ fn call_itself<M: Kind>(
 pub(crate) fn carry_out<M: Kind>(
     catalogue: &mut Catalogue<'_, M>,
     book: &mut QuoteBook<'_, M, M::Limit>,
-    workspace: &mut [Label<M>],
+    workspace: &mut [Slot<M>],
     reply: &mut [u16],
     turn: Turn,
 ) -> PlainReply {

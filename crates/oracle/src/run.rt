@@ -10,9 +10,9 @@ use crate::tally::{Tally, count};
 use crate::turn::{Trial, Turn};
 use cards::Card;
 use catalogue::{Catalogue, Link};
-use labels::Label;
+use labels::Slot;
 use quotes::QuoteBook;
-use routing::free_label;
+use routing::free_slot;
 use std::alloc::{AllocError, Global};
 
 // How many catalogues of each kind are tried.
@@ -38,7 +38,7 @@ struct Memory<M, L> {
     links: Vec<Option<Link<M>>>,
     cards: Vec<Option<Card<M, L>>>,
     other_cards: Vec<Option<Card<M, L>>>,
-    labels: Vec<Label<M>>,
+    labels: Vec<Slot<M>>,
 }
 
 fn lend<M: Kind>(alloc: Global) -> Result<Memory<M, M::Limit>, AllocError> {
@@ -46,7 +46,7 @@ fn lend<M: Kind>(alloc: Global) -> Result<Memory<M, M::Limit>, AllocError> {
         links: vec![in alloc; None; PLACES]?,
         cards: vec![in alloc; None; CARDS]?,
         other_cards: vec![in alloc; None; OTHER_CARDS]?,
-        labels: vec![in alloc; free_label::<M>(); WORKSPACE]?,
+        labels: vec![in alloc; free_slot::<M>(); WORKSPACE]?,
     })
 }
 

@@ -9,7 +9,7 @@ use crate::model::{Forecast, Foreseen, LEGS, Model, PlainCard, PlainRoute, Sough
 use crate::request::Request;
 use crate::tally::{Tally, count};
 use catalogue::Catalogue;
-use labels::Label;
+use labels::Slot;
 use quotes::QuoteBook;
 use report::{Mark, Returned};
 use std::alloc::AllocError;
@@ -31,7 +31,7 @@ pub struct Trial<'a, M, L> {
     pub catalogue: Catalogue<'a, M>,
     pub book: QuoteBook<'a, M, L>,
     pub other: QuoteBook<'a, M, L>,
-    pub labels: &'a mut [Label<M>],
+    pub labels: &'a mut [Slot<M>],
     pub model: Model,
     pub tally: &'a mut Tally,
 }

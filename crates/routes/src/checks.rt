@@ -1,12 +1,12 @@
 //! What the tests share: values, questions, what is found for them, and how a network is asked.
 use catalogue::walks::{Reached, follow};
 use catalogue::{Catalogue, Link, Links};
-use labels::Label;
+use labels::Slot;
 use measure::pair::Pair;
 use measure::scalar::Sum;
 use measure::{Measure, Ratio};
 use report::Refusal;
-use routing::{Ask, Route, find_route, free_label};
+use routing::{Ask, Route, find_route, free_slot};
 use std::alloc::{AllocError, Allocator};
 use std::fmt::Debug;
 use std::process::Abort;
@@ -108,7 +108,7 @@ fn check_legs<M: Measure + PartialEq + Debug>(
 pub(crate) fn check_answer<M: Measure + PartialEq + Debug>(
     rt: &impl Abort,
     network: &Catalogue<'_, M>,
-    labels: &mut [Label<M>],
+    labels: &mut [Slot<M>],
     case: Case<M, M::Limit>,
 ) -> Result<(), Fail> {
     let (k, ask, want) = case;
@@ -146,7 +146,7 @@ pub(crate) fn check_answers<M: Measure + PartialEq + Debug>(
     cases: &[Case<M, M::Limit>],
 ) -> Result<(), Fail> {
     let mut places = vec![in rt.alloc(); None; sizes.places]?;
-    let mut labels = vec![in rt.alloc(); free_label::<M>(); sizes.labels]?;
+    let mut labels = vec![in rt.alloc(); free_slot::<M>(); sizes.labels]?;
     let mut network = Catalogue::open(&mut places, sizes.sites);
     store_all(&mut network, links)?;
     for case in cases.iter().copied() {

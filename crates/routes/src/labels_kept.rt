@@ -47,7 +47,7 @@ fn a_better_walk_takes_the_place(rt: HostRuntime) -> Result<(), Fail> {
     check_answers(&rt, sizes, &links, &cases)
 }
 
-// One newcomer takes the place of two queued walks: site 2 has (8, 6) and (6, 8), then (2, 2), then (1, 3).
+// One newcomer takes the place of two queued walks: site 2 has (8, 6) and (6, 8), then (1, 3), then (2, 2).
 #[test]
 fn a_better_walk_frees_two_places(rt: HostRuntime) -> Result<(), Fail> {
     let sizes = Sizes {
@@ -59,8 +59,8 @@ fn a_better_walk_frees_two_places(rt: HostRuntime) -> Result<(), Fail> {
         link(0, 2, two(8, 6)),
         link(0, 2, two(6, 8)),
         link(0, 1, two(1, 1)),
-        link(1, 2, two(1, 1)),
         link(1, 2, two(0, 2)),
+        link(1, 2, two(1, 1)),
     ];
     let cases = [
         (2, under_tens(0, 2), best(two(2, 2), 2, 10)),

@@ -3,7 +3,7 @@ use crate::checks::*;
 use catalogue::Catalogue;
 use measure::pair::Pair;
 use report::Refusal;
-use routing::{Ask, find_route, free_label};
+use routing::{Ask, find_route, free_slot};
 use std::process::Abort;
 use std::test::Fail;
 
@@ -24,7 +24,7 @@ fn check_refused(
     let mut network = Catalogue::open(&mut places, 2);
     network.store(0, link(0, 1, two(1, 1)))?;
     for (size, k, ask, numbers) in attempts.iter().copied() {
-        let mut labels = vec![in rt.alloc(); free_label::<Two>(); size]?;
+        let mut labels = vec![in rt.alloc(); free_slot::<Two>(); size]?;
         let mut row = vec![in rt.alloc(); 9u16; numbers]?;
         let answer = find_route(&network, &mut labels, k, ask, &mut row);
         assert_eq!(rt; answer.err(), Some(why), "with {size} labels, {k} a site");
@@ -103,7 +103,7 @@ fn the_most_labels_and_the_least_limit(rt: HostRuntime) -> Result<(), Fail> {
 #[test]
 fn a_row_that_just_holds_the_sites(rt: HostRuntime) -> Result<(), Fail> {
     let mut places = [None; 2];
-    let mut labels = [free_label::<Two>(); 2];
+    let mut labels = [free_slot::<Two>(); 2];
     let mut row = [9u16; 2];
     let mut network = Catalogue::open(&mut places, 2);
     network.store(1, link(0, 1, two(1, 1)))?;

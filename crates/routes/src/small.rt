@@ -2,7 +2,7 @@
 use crate::checks::*;
 use catalogue::{Catalogue, Link};
 use measure::pair::Pair;
-use routing::{Ask, find_route, free_label};
+use routing::{Ask, find_route, free_slot};
 use std::test::Fail;
 
 // A D E F B is better than A E F B, (5, 7), and A E B, (7, 5).
@@ -54,23 +54,26 @@ fn two_labels_at_a_site(rt: HostRuntime) -> Result<(), Fail> {
 }
 
 // The walk of first rank to site 1 is (1, 5), and the first link on from there gives (3, 8).
-// The other walks have (5, 6), (7, 4) and (9, 2).
+// The other walks to site 2 have (5, 6), (7, 4) and (9, 2). Towards site 3 all four are held; towards site 2 itself the last two are not, since
+// (5, 6) is queued there, and ranks before them.
 #[test]
 fn the_first_route_met_is_not_the_best(rt: HostRuntime) -> Result<(), Fail> {
     let sizes = Sizes {
-        sites: 3,
-        places: 4,
-        labels: 12,
+        sites: 4,
+        places: 5,
+        labels: 16,
     };
     let links = [
         link(0, 1, two(5, 1)),
         link(0, 1, two(1, 5)),
         link(1, 2, two(2, 3)),
         link(1, 2, two(4, 1)),
+        link(2, 3, two(0, 0)),
     ];
     let cases = [
-        (4, under_tens(0, 2), best(two(5, 6), 6, 10)),
-        (3, under_tens(0, 2), full(2)),
+        (2, under_tens(0, 2), best(two(5, 6), 6, 10)),
+        (4, under_tens(0, 3), best(two(5, 6), 6, 10)),
+        (3, under_tens(0, 3), full(2)),
     ];
     check_answers(&rt, sizes, &links, &cases)
 }
@@ -142,7 +145,7 @@ fn no_walk_within_the_limit(rt: HostRuntime) -> Result<(), Fail> {
 #[test]
 fn from_a_site_to_itself(rt: HostRuntime) -> Result<(), Fail> {
     let mut places = [None; 10];
-    let mut labels = [free_label::<Two>(); 5];
+    let mut labels = [free_slot::<Two>(); 5];
     let mut network = Catalogue::open(&mut places, 5);
     store_all(&mut network, &both_ways(rt.alloc(), &five_sites())?)?;
     for site in 0..5u16 {

@@ -1,6 +1,6 @@
 -- What a service holds, and what it lends to the calls that it carries out.
 use Rattle.std.specs.Prelude.{◌≡◌, ℕ, List, length}
-use Rattle.labels.specs.declared.Label.{Label}
+use Rattle.labels.specs.declared.Slot.{Slot}
 use Rattle.measure.specs.Products.{trunk_kind}
 use Rattle.cards.specs.declared.Call.{Call}
 use Rattle.cards.specs.Runs.{Reply, Memory, Lent, lent, Outcome}
@@ -23,7 +23,7 @@ pub record Room : Type 0 where
   pub numbers : ℕ
 
 -- the room of these labels and numbers, with k labels a site
-abbrev pub room_of : ℕ → List (Label TrunkValue) → List ℕ → Room
+abbrev pub room_of : ℕ → List (Slot TrunkValue) → List ℕ → Room
 room_of k labels numbers = record { k = k; labels = length labels; numbers = length numbers }
 
 -- this much was lent

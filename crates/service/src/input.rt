@@ -5,7 +5,7 @@ ghost use Rattle.service.specs.declared.ServiceError.TheVariants as ServiceError
 
 use crate::ServiceError;
 use crate::storage::{Sizes, Storage};
-use routing::free_label;
+use routing::free_slot;
 use std::io;
 use std::io::{Read, Write};
 
@@ -62,7 +62,7 @@ pub fn serve_input<R: Read, W: Write>(input: &mut R, out: &mut W) -> Result<(), 
     let mut links = [None; PLACES];
     let mut cards = [None; CARDS];
     let mut rows = [0u16; ROWS];
-    let mut labels = [free_label(); LABELS];
+    let mut labels = [free_slot(); LABELS];
     let mut reply = [0u16; SITES];
     let mut storage = Storage {
         links: &mut links,

@@ -4,7 +4,7 @@ ghost use Rattle.service.specs.Input.{large, PrintsInput};
 
 use crate::ServiceError;
 use crate::storage::{Sizes, Storage};
-use routing::free_label;
+use routing::free_slot;
 use std::alloc::{AllocError, Global};
 use std::io::{Read, Write};
 
@@ -55,7 +55,7 @@ pub fn serve_large_input<R: Read, W: Write>(
     let mut links = lend(alloc, None, PLACES)?;
     let mut cards = lend(alloc, None, CARDS)?;
     let mut rows = lend(alloc, 0u16, ROWS)?;
-    let mut labels = lend(alloc, free_label(), LABELS)?;
+    let mut labels = lend(alloc, free_slot(), LABELS)?;
     let mut reply = lend(alloc, 0u16, SITES)?;
     let mut storage = Storage {
         links: &mut links,

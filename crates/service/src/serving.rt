@@ -6,7 +6,7 @@ ghost use Rattle.service.specs.Services.{memory_in, lent_by, Performed, SameServ
 use crate::{call_of, card_read, print};
 use cards::{Call, Reply};
 use catalogue::Catalogue;
-use labels::Label;
+use labels::Slot;
 use line::Reply as Printed;
 use measure::pair::{Trunk, TrunkLimit};
 use quotes::{QuoteBook, perform};
@@ -17,7 +17,7 @@ use records::Record;
 pub struct Service<'s, 'm> {
     pub catalogue: &'s mut Catalogue<'m, Trunk>,
     pub book: &'s mut QuoteBook<'m, Trunk, TrunkLimit>,
-    pub labels: &'s mut [Label<Trunk>],
+    pub labels: &'s mut [Slot<Trunk>],
     pub k: usize,
     pub reply: &'s mut [u16],
 }

@@ -8,7 +8,7 @@ ghost use Rattle.service.specs.declared.ServiceError.TheVariants as ServiceError
 use crate::{Service, ServiceError, read_input};
 use cards::Card;
 use catalogue::{Catalogue, Link, check_size};
-use labels::Label;
+use labels::Slot;
 use measure::pair::{Trunk, TrunkLimit};
 use quotes::{QuoteBook, check_book_size};
 use std::io::{Read, Write};
@@ -30,7 +30,7 @@ pub struct Storage<'m> {
     pub links: &'m mut [Option<Link<Trunk>>],
     pub cards: &'m mut [Option<Card<Trunk, TrunkLimit>>],
     pub rows: &'m mut [u16],
-    pub labels: &'m mut [Label<Trunk>],
+    pub labels: &'m mut [Slot<Trunk>],
     pub reply: &'m mut [u16],
     pub input: &'m mut [u8],
 }
@@ -40,7 +40,7 @@ pub struct Storage<'m> {
 fn serve_day<'s, 'm, W: Write>(
     catalogue: &'s mut Catalogue<'m, Trunk>,
     book: &'s mut QuoteBook<'m, Trunk, TrunkLimit>,
-    labels: &'s mut [Label<Trunk>],
+    labels: &'s mut [Slot<Trunk>],
     k: usize,
     reply: &'s mut [u16],
     out: &mut W,
