@@ -4,8 +4,9 @@
 // answered by a multi-constrained label-setting search in order of rank, with one binary heap of one-word keys, links in adjacency lists,
 // and the labels of each site in arrays of their own that are compared sixteen bytes at a time.
 //
-// Usage: reference [--sites N] [--places N] [--cards N] [--labels K] [--wide] [--plain] [--stats] < FEED
+// Usage: reference [--sites N] [--places N] [--cards N] [--labels K] [--wide] [--heap] [--plain] [--stats] < FEED
 //   --wide   no one-word keys and no half-width values: the general representation, whatever the limits are
+//   --heap   a binary heap and adjacency lists alone, as one writes this search first
 //   --plain  no structures: each turn scans all labels for the first in rank, and all link places for the links of its site
 //   --stats  prints to standard error, for each quote that was answered, the labels settled and the labels made, and then the means
 #include <algorithm>
@@ -465,6 +466,100 @@ template <class Keys, class Number> class Search {
     }
 };
 
+// The same search as one writes it first, with a binary heap and adjacency lists, and none of the rest: labels of all sites in one array,
+// those held at a site in a list of its own, and a queue of the standard library's heap by rounded ratios, equal ones compared exactly.
+class HeapSearch {
+  public:
+    Answer run(const Catalogue &catalogue, const Ask &ask, u32 k, Counts &counts) {
+        for (u32 site : touched_) held_[site].clear();
+        touched_.clear(), labels_.clear(), queue_.clear();
+        held_.resize(catalogue.sites);
+        limit_ = ask.limit;
+        u32 latest = NO_LABEL; // the first in rank that is queued at the destination
+        store(ask.source, {0, 0, 0}, NO_LABEL, 0);
+        while (!queue_.empty()) {
+            std::pop_heap(queue_.begin(), queue_.end(), After{*this});
+            const u32 label = queue_.back().label;
+            queue_.pop_back();
+            if (labels_[label].state == Free) continue;
+            labels_[label].state = Settled;
+            const Label here = labels_[label];
+            if (here.site == ask.destination) return {Answer::Route, here.value, 0, legs(label)};
+            counts.settled++;
+            const Hop *end = catalogue.end(here.site);
+            for (const Hop *hop = catalogue.begin(here.site); hop != end; hop++) {
+                const Value v = joined(here.value, {hop->delay, hop->price, hop->grade});
+                if (!within(v, ask.limit) || is_dominated(hop->end, v)) continue;
+                if (latest != NO_LABEL && !ranks_before(v, labels_[latest].value, limit_)) continue;
+                drop_dominated(hop->end, v);
+                if (held_[hop->end].size() == k) return {Answer::Full, {}, hop->end, {}};
+                store(hop->end, v, label, hop->place);
+                if (hop->end == ask.destination) latest = static_cast<u32>(labels_.size() - 1);
+            }
+        }
+        return {Answer::None, {}, 0, {}};
+    }
+
+    u32 made() const { return static_cast<u32>(labels_.size()); }
+
+  private:
+    enum State : u8 { Free, Queued, Settled };
+    struct Label {
+        Value value;
+        u32 before;
+        u16 site, place;
+        State state;
+    };
+    struct Entry {
+        double ratio;
+        u32 label;
+    };
+    struct After {
+        const HeapSearch &search;
+        bool operator()(const Entry &a, const Entry &b) const {
+            if (a.ratio != b.ratio) return a.ratio > b.ratio;
+            return ranks_before(search.labels_[b.label].value, search.labels_[a.label].value, search.limit_);
+        }
+    };
+    std::vector<Label> labels_;
+    std::vector<std::vector<u32>> held_;
+    std::vector<u32> touched_;
+    std::vector<Entry> queue_;
+    Value limit_{1, 1, 1};
+
+    bool is_dominated(u32 site, const Value &v) const {
+        for (u32 label : held_[site])
+            if (dominates(labels_[label].value, v)) return true;
+        return false;
+    }
+
+    void drop_dominated(u32 site, const Value &v) {
+        auto &held = held_[site];
+        held.erase(std::remove_if(held.begin(), held.end(), [&](u32 label) {
+            if (labels_[label].state != Queued || !dominates(v, labels_[label].value)) return false;
+            labels_[label].state = Free;
+            return true;
+        }), held.end());
+    }
+
+    void store(u32 site, const Value &v, u32 before, u16 place) {
+        const u32 label = static_cast<u32>(labels_.size());
+        if (held_[site].empty()) touched_.push_back(site);
+        labels_.push_back({v, before, static_cast<u16>(site), place, Queued});
+        held_[site].push_back(label);
+        const Ratio ratio = ratio_of(v, limit_);
+        queue_.push_back({static_cast<double>(ratio.top) / ratio.bottom, label});
+        std::push_heap(queue_.begin(), queue_.end(), After{*this});
+    }
+
+    std::vector<u16> legs(u32 label) const {
+        std::vector<u16> found;
+        for (; labels_[label].before != NO_LABEL; label = labels_[label].before) found.push_back(labels_[label].place);
+        std::reverse(found.begin(), found.end());
+        return found;
+    }
+};
+
 // The search with plain scans: a table of sites times k labels, free, queued or settled.
 class PlainSearch {
   public:
@@ -530,7 +625,7 @@ class PlainSearch {
 
 class Finder {
   public:
-    bool wide = false, plain = false, stats = false;
+    bool wide = false, plain = false, heap = false, stats = false;
     u32 k = MOST_LABELS;
 
     Answer find(Catalogue &catalogue, const Ask &ask) {
@@ -552,6 +647,7 @@ class Finder {
     Search<WordKeys, std::int32_t> word_;
     Search<WideKeys, std::int32_t> wide_;
     PlainSearch plain_;
+    HeapSearch heap_;
     Counts total_;
     u32 searches_ = 0, one_word_ = 0;
 
@@ -564,6 +660,11 @@ class Finder {
     Answer chosen(Catalogue &catalogue, const Ask &ask, Counts &counts) {
         if (plain) return plain_.run(catalogue, ask, k, counts);
         catalogue.prepare();
+        if (heap) {
+            Answer answer = heap_.run(catalogue, ask, k, counts);
+            counts.made = heap_.made();
+            return answer;
+        }
         if (auto keys = WordKeys::of(ask.limit); keys && !wide) {
             bool is_narrow = ask.limit.delay < 32768 && ask.limit.price < 32768 && ask.limit.grade < 32768;
             Answer answer = is_narrow ? counted(narrow_, *keys, catalogue, ask, counts) : counted(word_, *keys, catalogue, ask, counts);
@@ -745,11 +846,12 @@ std::vector<u8> all_of_input() {
 
 int main(int argc, char **argv) {
     u32 sites = 256, places = 4096, cards = 256, labels = MOST_LABELS;
-    bool wide = false, plain = false, stats = false;
+    bool wide = false, plain = false, heap = false, stats = false;
     for (int i = 1; i < argc; i++) {
         std::string option = argv[i];
         if (option == "--wide") wide = true;
         else if (option == "--plain") plain = true;
+        else if (option == "--heap") heap = true;
         else if (option == "--stats") stats = true;
         else if (i + 1 < argc && option == "--sites") sites = std::atoi(argv[++i]);
         else if (i + 1 < argc && option == "--places") places = std::atoi(argv[++i]);
@@ -760,7 +862,7 @@ int main(int argc, char **argv) {
     if (sites < 1 || sites > 65536 || places < 1 || places > 65536 || cards < 1 || cards > 65536 || labels < 1 || labels > MOST_LABELS)
         return std::fprintf(stderr, "reference: no such size\n"), 2;
     Day day(sites, places, cards);
-    day.finder.wide = wide, day.finder.plain = plain, day.finder.stats = stats, day.finder.k = labels;
+    day.finder.wide = wide, day.finder.plain = plain, day.finder.heap = heap, day.finder.stats = stats, day.finder.k = labels;
     day.serve(all_of_input());
     day.print();
     day.finder.print_means();
