@@ -234,7 +234,7 @@ module _ {V L : Type 0} (K : Kind V L) (l : L) (A B : ℕ → Label V) (W X : �
   names (suc f) c le some low ne off e =
       ⊎_elim
       (λ lt. let good = h.crowned c some lt in
-      let down : (d : ℕ) → d / 2 ≡ c → c < d → d < 2 * n → In k t (named W n d) → ⊥ = λ d half up top. names f d (omega arith) (omega arith) top (λ same. off (0, ap (λ x. x / 2) (sym same) ∙ half)) (λ a. off (suc (a.0), ap (λ x. x / 2) (a.1) ∙ half)) in
+      let down : (below : ℕ) → below / 2 ≡ c → c < below → below < 2 * n → In k t (named W n below) → ⊥ = λ below half up top. names f below (omega arith) (omega arith) top (λ same. off (0, ap (λ x. x / 2) (sym same) ∙ half)) (λ a. off (suc (a.0), ap (λ x. x / 2) (a.1) ∙ half)) in
       let mine : In k t (W c).winner = subst (In k t) (named_inner W n c lt) e in
       ⊎_elim
       (λ left. down (2 * c) (omega arith) (omega arith) (omega arith) (subst (In k t) left mine))
@@ -254,7 +254,7 @@ module _ {V L : Type 0} (K : Kind V L) (l : L) (A B : ℕ → Label V) (W X : �
         subst (SiteBest K l B k s) (sym (bests s)) (record { at = was.at; first = λ q at. precedes_same K l A B _ q (other _ (out _ was.at)) (other q (out q at)) (was.first q at) });
     crowned = λ i some lt off.
         let good = h.crowned i some lt in
-        let child : (d : ℕ) → d / 2 ≡ i → i < d → d < 2 * n → In k t (named W n d) → ⊥ = λ d half up top. names (2 * n) d (omega arith) (omega arith) top (λ same. off (0, ap (λ x. x / 2) (sym same) ∙ half)) (λ a. off (suc (a.0), ap (λ x. x / 2) (a.1) ∙ half)) in
+        let child : (below : ℕ) → below / 2 ≡ i → i < below → below < 2 * n → In k t (named W n below) → ⊥ = λ below half up top. names (2 * n) below (omega arith) (omega arith) top (λ same. off (0, ap (λ x. x / 2) (sym same) ∙ half)) (λ a. off (suc (a.0), ap (λ x. x / 2) (a.1) ∙ half)) in
         let left = child (2 * i) (omega arith) (omega arith) (omega arith) in
         let right = child (2 * i + 1) (omega arith) (omega arith) (omega arith) in
         let same = named_same W X n winners bests in
