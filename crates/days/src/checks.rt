@@ -1,22 +1,16 @@
 //! What the tests share: a day's memory, its calls, and what they answer.
+use crate::tables::{Numbers, Turn, Want, held, link};
 use cards::{Answer, Call, Card, Reply};
-use catalogue::{Catalogue, Link};
+use catalogue::{Catalogue, Link, Links};
 use labels::Slot;
+use measure::Measure;
 use measure::pair::{Trunk, TrunkLimit};
-use measure::{Measure, Ratio};
-use quotes::{QuoteBook, perform};
+use quotes::{QuoteBook, discard, perform, quote, read, recheck};
 use report::Mark;
-use routing::{Ask, Route, free_slot};
+use routing::free_slot;
 use std::alloc::{AllocError, Allocator};
 use std::fmt::Debug;
 use std::process::Abort;
-
-// A call, and what it answers.
-pub(crate) type Turn<M, L> = (Call<M, L>, Reply<M>);
-
-pub(crate) type TrunkCall = Call<Trunk, TrunkLimit>;
-
-pub(crate) type TrunkTurn = Turn<Trunk, TrunkLimit>;
 
 pub(crate) type TrunkDay<'a> = Day<'a, Trunk, TrunkLimit>;
 
@@ -87,102 +81,106 @@ impl<M: Measure, A: Allocator> Memory<M, M::Limit, A> {
 
 impl<M: Measure + PartialEq + Debug> Day<'_, M, M::Limit> {
     // The calls, one after the other, answer what stands beside them.
-    pub(crate) fn check(&mut self, rt: &impl Abort, turns: &[Turn<M, M::Limit>]) {
-        for (turn, &(call, want)) in turns.iter().enumerate() {
+    pub(crate) fn check<N: Numbers<M>>(&mut self, rt: &impl Abort, turns: &[Turn<N>]) {
+        for (turn, &(asked, want)) in turns.iter().enumerate() {
             let reply = perform(
                 &mut self.catalogue,
                 &mut self.book,
                 self.labels,
                 self.reply,
-                call,
+                asked.call(),
             );
-            assert_eq!(rt; reply, want, "at {turn}");
+            assert_eq!(rt; reply, want.reply(), "at {turn}");
         }
+    }
+
+    // The call by its own function, not by way of all calls.
+    fn call_itself(&mut self, call: Call<M, M::Limit>) -> Reply<M> {
+        let (network, book) = (&mut self.catalogue, &mut self.book);
+        let counted = match call {
+            Call::Offer { place, link } => quotes::offer(network, book, place, link)?,
+            Call::Change { place, value } => quotes::change(network, book, place, value)?,
+            Call::Withdraw { place } => quotes::withdraw(network, book, place)?,
+            Call::Quote { card, ask, k } => {
+                let answer = quote(network, book, self.labels, card, ask, k)?;
+                return held(Mark::Standing, answer);
+            }
+            Call::Recheck { card, k } => {
+                let answer = recheck(network, book, self.labels, card, k)?;
+                return held(Mark::Standing, answer);
+            }
+            Call::Discard { card } => {
+                discard(book, card)?;
+                0
+            }
+            Call::Read { card, start } => {
+                let (mark, answer) = read(book, card, self.reply, start)?;
+                return held(mark, answer);
+            }
+        };
+        Ok(Answer::Counted(counted))
+    }
+
+    // The same calls, each by its own function.
+    pub(crate) fn check_by_themselves<N: Numbers<M>>(
+        &mut self,
+        rt: &impl Abort,
+        turns: &[Turn<N>],
+    ) {
+        for (turn, &(asked, want)) in turns.iter().enumerate() {
+            let reply = self.call_itself(asked.call());
+            assert_eq!(rt; reply, want.reply(), "at {turn}");
+        }
+    }
+
+    // The first places hold links with these ends and values, and the others none.
+    pub(crate) fn check_links<N: Numbers<M>>(&self, rt: &impl Abort, links: &[(u16, u16, N)]) {
+        for place in 0..self.catalogue.places() {
+            let want = links
+                .get(place)
+                .map(|&(start, end, value)| link(start, end, value));
+            assert_eq!(rt; self.catalogue.link(place), want, "at {place}");
+        }
+    }
+
+    // A recheck of the card with these labels answers this.
+    pub(crate) fn check_recheck<N: Numbers<M>>(
+        &mut self,
+        rt: &impl Abort,
+        labels: &mut [Slot<M>],
+        card: usize,
+        k: usize,
+        want: Want<N>,
+    ) {
+        let found = recheck(&self.catalogue, &mut self.book, labels, card, k);
+        let reply = found.and_then(|answer| held(Mark::Standing, answer));
+        assert_eq!(rt; reply, want.reply(), "of {card} with {k}");
+    }
+
+    // A reading of the card into five numbers from this start gives this reply, and leaves these numbers.
+    pub(crate) fn check_reading<N: Numbers<M>>(
+        &self,
+        rt: &impl Abort,
+        card: usize,
+        start: usize,
+        want: Want<N>,
+        numbers: [u16; 5],
+    ) {
+        let mut lent = [9; 5];
+        let reading = read(&self.book, card, &mut lent, start);
+        let reply = reading.and_then(|(mark, answer)| held(mark, answer));
+        assert_eq!(rt; reply, want.reply(), "from {start}");
+        assert_eq!(rt; lent, numbers, "from {start}");
     }
 }
 
 // The memory of a day of these sizes after the calls, which answer what stands beside them.
-pub(crate) fn memory_after<M: Measure + PartialEq + Debug, R: Abort + Alloc>(
+pub(crate) fn memory_after<M: Measure + PartialEq + Debug, N: Numbers<M>, R: Abort + Alloc>(
     rt: &R,
     sizes: Sizes,
-    turns: &[Turn<M, M::Limit>],
+    turns: &[Turn<N>],
 ) -> Result<Memory<M, M::Limit, R::A>, AllocError> {
     let mut memory = lend(rt, sizes)?;
     memory.open().check(rt, turns);
     Ok(memory)
-}
-
-// Each crate of tests has its own few lines such as these two.
-pub(crate) fn link<M: Measure>(start: u16, end: u16, value: M) -> Link<M> {
-    Link { start, end, value }
-}
-
-pub(crate) fn ask<L>(source: u16, destination: u16, limit: L) -> Ask<L> {
-    Ask {
-        source,
-        destination,
-        limit,
-    }
-}
-
-pub(crate) fn offer<M: Measure, L: Copy>(
-    place: usize,
-    start: u16,
-    end: u16,
-    value: M,
-) -> Call<M, L> {
-    Call::Offer {
-        place,
-        link: link(start, end, value),
-    }
-}
-
-pub(crate) fn change<M: Measure, L: Copy>(place: usize, value: M) -> Call<M, L> {
-    Call::Change { place, value }
-}
-
-// Its numbers stand side by side, so that a table of calls has a line for each.
-pub(crate) fn quote<M: Measure, L: Copy>(
-    card: usize,
-    source: u16,
-    destination: u16,
-    limit: L,
-    k: usize,
-) -> Call<M, L> {
-    Call::Quote {
-        card,
-        ask: ask(source, destination, limit),
-        k,
-    }
-}
-
-pub(crate) fn recheck<M: Measure, L: Copy>(card: usize, k: usize) -> Call<M, L> {
-    Call::Recheck { card, k }
-}
-
-// A reading that begins at the reply's first number.
-pub(crate) fn read<M: Measure, L: Copy>(card: usize) -> Call<M, L> {
-    Call::Read { card, start: 0 }
-}
-
-// So many cards fall into doubt.
-pub(crate) fn counted<M: Measure>(cards: usize) -> Reply<M> {
-    Ok(Answer::Counted(cards))
-}
-
-// The card of this mark has this answer.
-pub(crate) fn held<M: Measure>(mark: Mark, answer: Option<Route<M>>) -> Reply<M> {
-    Ok(Answer::Held { mark, answer })
-}
-
-// The card of this mark has a route of so many legs, of the ratio `top / bottom`.
-pub(crate) fn best<M: Measure>(
-    mark: Mark,
-    legs: usize,
-    value: M,
-    top: u32,
-    bottom: u32,
-) -> Reply<M> {
-    let ratio = Ratio { top, bottom };
-    held(mark, Some(Route { legs, value, ratio }))
 }

@@ -36,8 +36,8 @@ pub struct Ask<L> {
 #[derive(Clone, Copy, PartialEq, Eq, Debug)]
 pub struct Route<M> {
     pub legs: usize,
-    pub value: M,
     pub ratio: Ratio,
+    pub value: M,
 }
 
 // A free place, to make a workspace of. No `Default`: the crate of labels has no code, and a value is empty by its kind.
