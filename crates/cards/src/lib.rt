@@ -9,9 +9,9 @@ use routing::{Ask, Route};
 // What is kept of a line that was asked about: what was asked, the best route or that there is none, and how far that can be trusted.
 #[derive(Clone, Copy, PartialEq, Eq, Debug)]
 pub struct Card<M, L> {
+    pub mark: Mark,
     pub ask: Ask<L>,
     pub answer: Option<Route<M>>,
-    pub mark: Mark,
 }
 
 // What can happen to a card's mark.

@@ -152,8 +152,10 @@ impl<M: Measure + PartialEq + Debug> Day<'_, M, M::Limit> {
         k: usize,
         want: Want<N>,
     ) {
-        let found = recheck(&self.catalogue, &mut self.book, labels, card, k);
-        let reply = found.and_then(|answer| held(Mark::Standing, answer));
+        let reply = match recheck(&self.catalogue, &mut self.book, labels, card, k) {
+            Ok(answer) => held(Mark::Standing, answer),
+            Err(why) => Err(why),
+        };
         assert_eq!(rt; reply, want.reply(), "of {card} with {k}");
     }
 
@@ -167,8 +169,10 @@ impl<M: Measure + PartialEq + Debug> Day<'_, M, M::Limit> {
         numbers: [u16; 5],
     ) {
         let mut lent = [9; 5];
-        let reading = read(&self.book, card, &mut lent, start);
-        let reply = reading.and_then(|(mark, answer)| held(mark, answer));
+        let reply = match read(&self.book, card, &mut lent, start) {
+            Ok((mark, answer)) => held(mark, answer),
+            Err(why) => Err(why),
+        };
         assert_eq!(rt; reply, want.reply(), "from {start}");
         assert_eq!(rt; lent, numbers, "from {start}");
     }

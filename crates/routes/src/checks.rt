@@ -7,7 +7,6 @@ use measure::scalar::Sum;
 use measure::{Measure, Ratio};
 use report::Refusal;
 use routing::{Ask, Route, find_route, free_slot};
-use std::alloc::{AllocError, Allocator};
 use std::fmt::Debug;
 use std::process::Abort;
 use std::test::Fail;
@@ -16,11 +15,66 @@ pub(crate) type Two = Pair<Sum, Sum>;
 
 pub(crate) type Three = Pair<Two, Sum>;
 
-// What is found: the value and ratio of a route, no route, or a refusal.
-pub(crate) type Found<M> = Result<Option<(M, Ratio)>, Refusal>;
+// The numbers of a value or of a limit, side by side, so that a table of links or questions can be a constant.
+pub(crate) trait Numbers<M: Measure>: Copy {
+    fn value(self) -> M;
 
-// How many labels a site has, a question, and what is found for it.
-pub(crate) type Case<M, L> = (usize, Ask<L>, Found<M>);
+    fn limit(self) -> M::Limit;
+}
+
+fn pair<A, B>(first: A, second: B) -> Pair<A, B> {
+    Pair { first, second }
+}
+
+impl Numbers<Two> for (u32, u32) {
+    fn value(self) -> Two {
+        pair(Sum::new(self.0), Sum::new(self.1))
+    }
+
+    fn limit(self) -> Pair<u32, u32> {
+        pair(self.0, self.1)
+    }
+}
+
+impl Numbers<Three> for (u32, u32, u32) {
+    fn value(self) -> Three {
+        pair((self.0, self.1).value(), Sum::new(self.2))
+    }
+
+    fn limit(self) -> Pair<Pair<u32, u32>, u32> {
+        pair(pair(self.0, self.1), self.2)
+    }
+}
+
+// A link: its start and end, and its value.
+pub(crate) type Joined<N> = (u16, u16, N);
+
+// A question: how many labels a site has, source and destination, and the limit.
+pub(crate) type Asked<N> = (usize, u16, u16, N);
+
+// What is found: a route of this value and of a ratio with these two parts, no route, or that the labels of the site are full.
+#[derive(Clone, Copy)]
+pub(crate) enum Want<N> {
+    Best(N, u32, u32),
+    NoRoute,
+    Full(usize),
+}
+
+impl<N> Want<N> {
+    fn found<M: Measure>(self) -> Result<Option<(M, Ratio)>, Refusal>
+    where
+        N: Numbers<M>,
+    {
+        match self {
+            Want::Best(value, top, bottom) => Ok(Some((value.value(), Ratio { top, bottom }))),
+            Want::NoRoute => Ok(None),
+            Want::Full(site) => Err(Refusal::LabelsFull { site }),
+        }
+    }
+}
+
+// A question, and what is found for it.
+pub(crate) type Case<N> = (Asked<N>, Want<N>);
 
 // How many sites and link places a network has, and how many labels there are to lend.
 #[derive(Clone, Copy)]
@@ -30,58 +84,32 @@ pub(crate) struct Sizes {
     pub labels: usize,
 }
 
-pub(crate) fn pair<A, B>(first: A, second: B) -> Pair<A, B> {
-    Pair { first, second }
+// Each crate of tests has its own few lines such as these two.
+pub(crate) fn link<M: Measure>((start, end, value): Joined<impl Numbers<M>>) -> Link<M> {
+    Link {
+        start,
+        end,
+        value: value.value(),
+    }
 }
 
-// Each crate of tests has its own few lines such as these.
-pub(crate) fn two(a: u32, b: u32) -> Two {
-    pair(Sum::new(a), Sum::new(b))
-}
-
-pub(crate) fn three(a: u32, b: u32, c: u32) -> Three {
-    pair(two(a, b), Sum::new(c))
-}
-
-pub(crate) fn link<M: Measure>(start: u16, end: u16, value: M) -> Link<M> {
-    Link { start, end, value }
-}
-
-pub(crate) fn ask<L>(source: u16, destination: u16, limit: L) -> Ask<L> {
+pub(crate) fn ask<M: Measure>(
+    source: u16,
+    destination: u16,
+    limit: impl Numbers<M>,
+) -> Ask<M::Limit> {
     Ask {
         source,
         destination,
-        limit,
+        limit: limit.limit(),
     }
 }
 
-// A question under two limits of 10.
-pub(crate) fn under_tens(source: u16, destination: u16) -> Ask<Pair<u32, u32>> {
-    ask(source, destination, pair(10, 10))
-}
-
-// A route of this value and of the ratio `top / bottom` is found.
-pub(crate) fn best<M: Measure>(value: M, top: u32, bottom: u32) -> Found<M> {
-    Ok(Some((value, Ratio { top, bottom })))
-}
-
-// The labels of this site are full.
-pub(crate) fn full<M: Measure>(site: usize) -> Found<M> {
-    Err(Refusal::LabelsFull { site })
-}
-
-// Each link in both directions, one after the other.
-pub(crate) fn both_ways<M: Measure, A: Allocator>(
-    alloc: A,
-    links: &[Link<M>],
-) -> Result<Vec<Link<M>, A>, AllocError> {
-    // As a chain (flat_map) it did not prove: that the room of its parts is small stays open, for a value of any kind.
-    let mut both = Vec::new(alloc);
-    for there in links.iter().copied() {
-        both.push(there)?;
-        both.push(link(there.end, there.start, there.value))?;
+// Each number of the row is this one.
+pub(crate) fn check_all(rt: &impl Abort, row: &[u16], want: u16) {
+    for &number in row {
+        assert_eq!(rt; number, want);
     }
-    Ok(both)
 }
 
 // The legs of the route stand at the head of the row: a walk from the source to the destination, of the route's value. Zeros follow.
@@ -100,57 +128,62 @@ fn check_legs<M: Measure + PartialEq + Debug>(
         value: route.value,
     };
     assert_eq!(rt; follow(network, source, legs), Some(end));
-    assert!(rt; rest.iter().all(|number| *number == 0));
+    check_all(rt, rest, 0);
     Ok(())
 }
 
-// With so many labels a site, the first of those lent, this is found for the question. A refusal leaves the row as it was.
-pub(crate) fn check_answer<M: Measure + PartialEq + Debug>(
+// This is found for the question, with the first of the labels that are lent. A refusal leaves the row as it was.
+fn check_answer<M: Measure + PartialEq + Debug, N: Numbers<M>>(
     rt: &impl Abort,
     network: &Catalogue<'_, M>,
     labels: &mut [Slot<M>],
-    case: Case<M, M::Limit>,
+    (k, source, destination, limit): Asked<N>,
+    want: Want<N>,
 ) -> Result<(), Fail> {
-    let (k, ask, want) = case;
-    let (source, destination) = (ask.source, ask.destination);
     let mut row = [9; 16];
     let size = network.sites().saturating_mul(k).min(labels.len());
-    let answer = find_route(network, &mut labels[0..size], k, ask, &mut row);
+    let asked = ask(source, destination, limit);
+    let answer = find_route(network, &mut labels[0..size], k, asked, &mut row);
     match &answer {
         Ok(Some(route)) => check_legs(rt, network, source, destination, &row, route)?,
         Ok(None) => assert_eq!(rt; row, [0; 16]),
         Err(_) => assert_eq!(rt; row, [9; 16]),
     }
     let found = answer.map(|best| best.map(|route| (route.value, route.ratio)));
-    assert_eq!(rt; found, want);
+    assert_eq!(rt; found, want.found());
     Ok(())
 }
 
-// Stores the links in order, from place 0 on.
-pub(crate) fn store_all<M: Measure>(
-    network: &mut Catalogue<'_, M>,
-    links: &[Link<M>],
-) -> Result<(), Fail> {
-    for (place, link) in links.iter().copied().enumerate() {
-        network.store(place, link)?;
-    }
-    Ok(())
-}
-
-// In a network of these sizes, with these links from place 0 on, what stands beside them is found for the questions, each with so many
-// labels a site.
-pub(crate) fn check_answers<M: Measure + PartialEq + Debug>(
-    rt: &(impl Abort + Alloc),
+// In a network of these sizes, with these links from place 0 on, what stands beside them is found for the questions.
+pub(crate) fn check_answers<M: Measure + PartialEq + Debug, N: Numbers<M>, R: Abort + Alloc>(
+    rt: &R,
     sizes: Sizes,
-    links: &[Link<M>],
-    cases: &[Case<M, M::Limit>],
+    links: &[Joined<N>],
+    cases: &[Case<N>],
 ) -> Result<(), Fail> {
     let mut places = vec![in rt.alloc(); None; sizes.places]?;
     let mut labels = vec![in rt.alloc(); free_slot::<M>(); sizes.labels]?;
     let mut network = Catalogue::open(&mut places, sizes.sites);
-    store_all(&mut network, links)?;
-    for case in cases.iter().copied() {
-        check_answer(rt, &network, &mut labels, case)?;
+    for (place, &joined) in links.iter().enumerate() {
+        network.store(place, link(joined))?;
+    }
+    for &(asked, want) in cases {
+        check_answer(rt, &network, &mut labels, asked, want)?;
     }
     Ok(())
+}
+
+// The same, where each link stands in both directions, one after the other.
+pub(crate) fn check_both_ways<M: Measure + PartialEq + Debug, N: Numbers<M>, R: Abort + Alloc>(
+    rt: &R,
+    sizes: Sizes,
+    links: &[Joined<N>],
+    cases: &[Case<N>],
+) -> Result<(), Fail> {
+    let mut both = Vec::new(rt.alloc());
+    for &(start, end, value) in links {
+        both.push((start, end, value))?;
+        both.push((end, start, value))?;
+    }
+    check_answers(rt, sizes, &both, cases)
 }

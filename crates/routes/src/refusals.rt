@@ -1,18 +1,17 @@
 //! Routes that are refused before routing begins, for the first cause in order, and the row left as it was.
 use crate::checks::*;
 use catalogue::Catalogue;
-use measure::pair::Pair;
 use report::Refusal;
-use routing::{Ask, find_route, free_slot};
+use routing::{find_route, free_slot};
 use std::process::Abort;
 use std::test::Fail;
 
-fn under(source: u16, destination: u16, a: u32, b: u32) -> Ask<Pair<u32, u32>> {
-    ask(source, destination, pair(a, b))
-}
+type Pairs = (u32, u32);
 
-// A question with so many labels in all, labels a site, and numbers in the row.
-type Attempt = (usize, usize, Ask<Pair<u32, u32>>, usize);
+const TENS: Pairs = (10, 10);
+
+// A question, with so many labels in all and numbers in the row.
+type Attempt = (Asked<Pairs>, usize, usize);
 
 // Each attempt at a route between two sites is refused.
 fn check_refused(
@@ -22,24 +21,26 @@ fn check_refused(
 ) -> Result<(), Fail> {
     let mut places = [None; 1];
     let mut network = Catalogue::open(&mut places, 2);
-    network.store(0, link(0, 1, two(1, 1)))?;
-    for (size, k, ask, numbers) in attempts.iter().copied() {
+    network.store(0, link((0, 1, (1, 1))))?;
+    for &((k, source, destination, limit), size, numbers) in attempts {
         let mut labels = vec![in rt.alloc(); free_slot::<Two>(); size]?;
         let mut row = vec![in rt.alloc(); 9u16; numbers]?;
-        let answer = find_route(&network, &mut labels, k, ask, &mut row);
+        let asked = ask(source, destination, limit);
+        let answer = find_route(&network, &mut labels, k, asked, &mut row);
         assert_eq!(rt; answer.err(), Some(why), "with {size} labels, {k} a site");
-        assert!(rt; row.iter().all(|number| *number == 9));
+        check_all(rt, &row, 9);
     }
     Ok(())
 }
 
+// Whatever else is wrong beside the sites.
 #[test]
 fn no_such_site(rt: HostRuntime) -> Result<(), Fail> {
     for (source, destination) in [(2, 0), (0, 2), (2, 2), (65535, 1), (1, 65535)] {
         let attempts = [
-            (2, 1, under(source, destination, 10, 10), 2),
-            (2, 1, under(source, destination, 0, 10), 2),
-            (1, 0, under(source, destination, 10, 0), 1),
+            ((1, source, destination, TENS), 2, 2),
+            ((1, source, destination, (0, 10)), 2, 2),
+            ((0, source, destination, (10, 0)), 1, 1),
         ];
         check_refused(&rt, &attempts, Refusal::NoSuchSite)?;
     }
@@ -48,30 +49,35 @@ fn no_such_site(rt: HostRuntime) -> Result<(), Fail> {
 
 #[test]
 fn limits_that_are_not_admitted(rt: HostRuntime) -> Result<(), Fail> {
-    for (a, b) in [(0, 10), (10, 0), (2147483648, 10), (10, 4294967295)] {
-        let ask = under(0, 1, a, b);
-        let attempts = [(2, 1, ask, 2), (0, 0, ask, 2), (3, 1, ask, 0)];
+    for limit in [(0, 10), (10, 0), (2147483648, 10), (10, 4294967295)] {
+        let attempts = [
+            ((1, 0, 1, limit), 2, 2),
+            ((0, 0, 1, limit), 0, 2),
+            ((1, 0, 1, limit), 3, 0),
+        ];
         check_refused(&rt, &attempts, Refusal::LimitNotAdmitted)?;
     }
     Ok(())
 }
 
+// Labels in all, and labels a site.
+const MISFITS: [(usize, usize); 10] = [
+    (0, 0),
+    (2, 0),
+    (0, 1),
+    (1, 1),
+    (3, 1),
+    (2, 2),
+    (127, 64),
+    (129, 64),
+    (130, 65),
+    (2, usize::MAX),
+];
+
 #[test]
 fn workspaces_of_another_size(rt: HostRuntime) -> Result<(), Fail> {
-    let ask = under_tens(0, 1);
-    for (size, k) in [
-        (0, 0),
-        (2, 0),
-        (0, 1),
-        (1, 1),
-        (3, 1),
-        (2, 2),
-        (127, 64),
-        (129, 64),
-        (130, 65),
-        (2, usize::MAX),
-    ] {
-        let attempts = [(size, k, ask, 2), (size, k, ask, 1)];
+    for (size, k) in MISFITS {
+        let attempts = [((k, 0, 1, TENS), size, 2), ((k, 0, 1, TENS), size, 1)];
         check_refused(&rt, &attempts, Refusal::WorkspaceSize)?;
     }
     Ok(())
@@ -81,8 +87,8 @@ fn workspaces_of_another_size(rt: HostRuntime) -> Result<(), Fail> {
 fn rows_too_short(rt: HostRuntime) -> Result<(), Fail> {
     for numbers in 0..2usize {
         let attempts = [
-            (2, 1, under(0, 1, 10, 10), numbers),
-            (128, 64, under(1, 1, 1, 1), numbers),
+            ((1, 0, 1, TENS), 2, numbers),
+            ((64, 1, 1, (1, 1)), 128, numbers),
         ];
         check_refused(&rt, &attempts, Refusal::ReplyTooShort)?;
     }
@@ -96,8 +102,8 @@ fn the_most_labels_and_the_least_limit(rt: HostRuntime) -> Result<(), Fail> {
         places: 1,
         labels: 128,
     };
-    let cases = [(64, under(0, 1, 1, 1), best(two(1, 1), 1, 1))];
-    check_answers(&rt, sizes, &[link(0, 1, two(1, 1))], &cases)
+    let cases = [((64, 0, 1, (1, 1)), Want::Best((1, 1), 1, 1))];
+    check_answers::<Two, _, _>(&rt, sizes, &[(0, 1, (1, 1))], &cases)
 }
 
 #[test]
@@ -106,14 +112,9 @@ fn a_row_that_just_holds_the_sites(rt: HostRuntime) -> Result<(), Fail> {
     let mut labels = [free_slot::<Two>(); 2];
     let mut row = [9u16; 2];
     let mut network = Catalogue::open(&mut places, 2);
-    network.store(1, link(0, 1, two(1, 1)))?;
-    let found = find_route(
-        &network,
-        &mut labels,
-        1,
-        under(0, 1, 2147483647, 1),
-        &mut row,
-    )?;
+    network.store(1, link((0, 1, (1, 1))))?;
+    let asked = ask(0, 1, (2147483647, 1));
+    let found = find_route(&network, &mut labels, 1, asked, &mut row)?;
     assert!(rt; found.is_some());
     assert_eq!(rt; row, [1, 0]);
     Ok(())

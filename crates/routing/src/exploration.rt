@@ -23,9 +23,9 @@ use report::Refusal;
 #[derive(Drop)]
 pub(crate) struct Exploration<'a, M: Measure, N: Links<M>> {
     pub network: &'a N,
-    pub tournament: Tournament<M>,
     pub source: usize,
     pub destination: usize,
+    pub tournament: Tournament<M>,
     ghost sound: { Sound M.Measure.kind (N.Links.span network.now) (N.Links.links network.now) } by { Prim.hlevel props },
     ghost spans: { tournament.sites ≡ N.Links.span network.now },
     ghost source_in: { source < N.Links.span network.now },

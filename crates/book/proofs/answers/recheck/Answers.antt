@@ -5,4 +5,4 @@ use Rattle.book.proofs.answers.recheck.Goals as goal
 
 pub answer_card-requires-clause-free : goal.answer_card-requires-clause-free
 answer_card-requires-clause-free g c =
-    (rechecks g.M.Measure.kind (network_of c.args.catalogue.now) (book_of c.args.book.now) c.args.card (length c.args.labels.now) c.args.k (sym c.in_ok-check_sites.was ∙ c.check_sites.ensures) c.in_ok-ask.field-0 (sym c.in_ok-ask.was ∙ c.check_recheck.ensures)).free
+    (rechecks g.M.Measure.kind (network_of c.args.catalogue.now) (book_of c.args.book.now) c.args.card (length c.args.labels.now) c.args.k (sym c.in_ok-check_sites.was ∙ c.check_sites.ensures) c.in_ok-mark.field-0 (sym c.in_ok-mark.was ∙ c.check_recheck.ensures)).free
