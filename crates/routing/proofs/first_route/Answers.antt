@@ -1,4 +1,5 @@
-use Rattle.std.proofs.Common.{◌<◌, length, sym, subst, arith, rules}
+use borrow.Author.Rules.{scaled_Fits}
+use Rattle.std.proofs.Common.{◌<◌, length, sym, subst, arith}
 use Rattle.std.proofs.lemmas.List.{get_or_default}
 use Rattle.catalogue.specs.Walks.{Holds}
 use Rattle.catalogue.specs.Routes.{Best}
@@ -13,7 +14,7 @@ offset_bounds-slots-p g c =
     let wins = rw c.in-Some.is at c.in_ok-p.ensures.ends in
     let inside = held_inside g.M.Measure.kind c.explore.new.slots c.in-Some.p (waits_held _ wins.waits) in
     let low : c.in-Some.p < length c.args.slots.now = omega arith in
-    search rules
+    search scaled_Fits
 
 pub returns-clause-answered : goal.returns-clause-answered
 returns-clause-answered g c =
@@ -32,3 +33,9 @@ returns-clause-answered g c =
       subst (λ (y : Slot g.row.M.Denot). Best K e.tournament.limit (Holds (g.N.Links.links e.network.now)) e.source e.destination legs y.label.value) (sym here)
           (record { walk = walk; simple = simple; within = (wins.rests.kept.fit p held).within; first = wins.first }),
     )
+
+pub bounds-slots-p : goal.bounds-slots-p
+bounds-slots-p g c = let wins = rw c.in-Some.is at c.in_ok-p.ensures.ends in held_inside g.M.Measure.kind c.explore.new.slots c.in-Some.p (waits_held _ wins.waits)
+
+pub bounds-slots-p-in-Some : goal.bounds-slots-p-in-Some
+bounds-slots-p-in-Some g c = let wins = rw c.in-Some.is at c.in_ok-p.ensures.ends in held_inside g.M.Measure.kind c.explore.new.slots c.in-Some.p (waits_held _ wins.waits)

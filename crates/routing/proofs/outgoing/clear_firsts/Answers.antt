@@ -1,3 +1,4 @@
+use borrow.Author.Rules.{scaled_Fits}
 use Rattle.std.proofs.Common.{◌<◌, length, ◌∙◌, ⊎_elim, arith}
 use Rattle.std.proofs.lemmas.Bool.{cases_eq}
 use Rattle.labels.specs.Labels.{slot}
@@ -19,3 +20,6 @@ loop-slot-preserved g c =
           (cases_eq s i);
       labels = first_labels K xs i r inside c.args.none (slot K c.args.slots.now) kept.labels;
     }
+
+pub offset_bounds-slots-slot-index : goal.offset_bounds-slots-slot-index
+offset_bounds-slots-slot-index g c = search (scaled_Fits, c.loop-slot-test.true)

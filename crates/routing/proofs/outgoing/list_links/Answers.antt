@@ -57,3 +57,6 @@ pub returns-clause-listed : goal.returns-clause-listed
 returns-clause-listed g c told room =
     let done : c.loop-place.place ≡ 0 = omega arith in
     subst₂ (Listed (g.N.Links.links c.args.network.now) (slot g.M.Measure.kind c.loop-place.slots)) c.sites-sites.ensures done c.loop-place.invariant.listed
+
+pub slice_bounds-clear_firsts-end : goal.slice_bounds-clear_firsts-end
+slice_bounds-clear_firsts-end g c = let low : c.sites-sites.result ≤ length c.args.slots.now = omega (arith, c.requires, c.sites-sites.ensures) in search low

@@ -1,3 +1,4 @@
+use borrow.Author.Rules.{scaled_Fits}
 use Rattle.std.proofs.Common.{sym, ◌∙◌, inl, inr, arith}
 use Rattle.labels.proofs.Scans.{cleared_more}
 use Rattle.routing.proofs.scan.clear_dominated.Goals as goal
@@ -11,3 +12,6 @@ loop-slot-preserved g c =
       | then-yields w ↦ inl (sym c.yields.ensures ∙ w.if-yields.true, w.slots-is)
       | else-yields w ↦ inr (sym c.yields.ensures ∙ w.if-yields.false, w.slots-is)
     ])
+
+pub offset_bounds-slots-slot-index : goal.offset_bounds-slots-slot-index
+offset_bounds-slots-slot-index g c = search (scaled_Fits, c.loop-slot-test.true)

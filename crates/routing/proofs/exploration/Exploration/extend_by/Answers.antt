@@ -2,7 +2,8 @@ use Rattle.std.proofs.Common.{◌≤◌, length, refl, subst, arith}
 use Rattle.std.proofs.lemmas.Result.{MatchResult-weaker}
 use Rattle.labels.specs.Labels.{slot, table}
 use Rattle.labels.proofs.Outgoing.{listed_same}
-use Rattle.labels.proofs.Turns.{turn_none, turn_beaten, turn_dominated, turn_fit, turn_full, turn_adds}
+use Rattle.labels.proofs.Chains.{done_held}
+use Rattle.labels.proofs.Turns.{held_inside, turn_none, turn_beaten, turn_dominated, turn_fit, turn_full, turn_adds}
 use Rattle.routing.proofs.exploration.Exploration.extend_by.Goals as goal
 
 pub returns-in_default-clause-opens : goal.returns-in_default-clause-opens
@@ -56,3 +57,12 @@ returns-clause-opens g c =
     let (opens, steady) = turn_adds laws self.tournament.admitted self.sound c.requires.opens offer fresh (table K new) x adds in
     (opens, steady, record { noted = noted; listed = λ few. listed_same cat (slot K old) (slot K new) self.tournament.sites 0 c.put.ensures.links (c.requires.indexed.listed (subst (λ n. length cat ≤ n) c.put.auto.slots few)) }))
     (λ why full. (c.in-Some.offer.site, full.0, turn_full laws self.tournament.admitted self.sound c.requires.opens offer fresh full.1))
+
+pub offered-requires : goal.offered-requires
+offered-requires g c = held_inside g.M.Measure.kind c.args.slots.now c.args.h (done_held _ c.requires.opens.done)
+
+pub overflow_cast-newcomer : goal.overflow_cast-newcomer
+overflow_cast-newcomer g c =
+    let few = c.args.self.now.tournament.few in
+    let low = held_inside g.M.Measure.kind c.args.slots.now c.args.h (done_held _ c.requires.opens.done) in
+    record { fits = omega (arith, c.requires.size, few, low) }

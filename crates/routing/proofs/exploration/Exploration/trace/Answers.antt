@@ -41,3 +41,12 @@ unreachable-requires g c =
     let inside = self.source_in in
     let short = traced_short self.sound (reverse (take c.loop-i.i c.loop-i.row)) (omega (arith, c.requires.room)) c.loop-i.invariant in
     omega (arith, c.requires.room)
+
+pub offset_bounds-slots-q : goal.offset_bounds-slots-q
+offset_bounds-slots-q g c = let low = held_inside g.M.Measure.kind c.args.slots.now c.loop-i.q c.loop-i.invariant.held in omega (arith, low)
+
+pub bounds-slots-q : goal.bounds-slots-q
+bounds-slots-q g c = held_inside g.M.Measure.kind c.args.slots.now c.loop-i.q c.loop-i.invariant.held
+
+pub bounds-slots-q-in-loop-i : goal.bounds-slots-q-in-loop-i
+bounds-slots-q-in-loop-i g c = held_inside g.M.Measure.kind c.args.slots.now c.loop-i.q c.loop-i.invariant.held

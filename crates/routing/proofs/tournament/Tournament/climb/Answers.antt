@@ -1,10 +1,11 @@
-use Rattle.std.proofs.Common.{ℕ, ◌*◌, ◌/◌, ◌<◌, length, set, ◌+◌, sym, ap, ◌∙◌, subst, arith, rules}
+use borrow.Author.Rules.{scaled_Fits}
+use Rattle.std.proofs.Common.{ℕ, ◌*◌, ◌/◌, ◌<◌, length, set, ◌+◌, sym, ap, ◌∙◌, subst, arith}
 use Rattle.labels.specs.Labels.{slot, table}
 use Rattle.labels.specs.Tournament.{Better}
 use Rattle.labels.proofs.Nodes.{sites_few}
 use Rattle.labels.proofs.Standing.{better_inside}
 use Rattle.labels.proofs.Writes.{slot_read, slot_same, slot_other, slot_stays}
-use Rattle.labels.proofs.Climbing.{Rises, rises_none, rises_inside, rises_other, rises_fits, rises_more, rises_all}
+use Rattle.labels.proofs.Climbing.{Rises, sibling_low, rises_none, rises_inside, rises_other, rises_fits, rises_more, rises_all}
 use Rattle.routing.proofs.tournament.Tournament.climb.Goals as goal
 
 pub offset_bounds-slots-site : goal.offset_bounds-slots-site
@@ -12,7 +13,7 @@ offset_bounds-slots-site g c =
     let self = c.args.self.now in
     let few = sites_few self.k self.sites self.some in
     let low : c.args.site < length c.args.slots.now = omega (arith, c.requires.size, c.requires.here) in
-    search rules
+    search scaled_Fits
 
 pub loop-node-init : goal.loop-node-init
 loop-node-init g c =
@@ -48,14 +49,14 @@ overflow_cast-slots g c =
     let low : c.better-winner.result < self.sites * self.k =
     better_inside K self.limit (λ p. (W p).label) (self.sites * self.k) c.loop-node.winner c.named-other.result c.better-winner.result (rises_inside h) (subst (λ (x : ℕ). x < self.sites * self.k) (sym c.named-other.ensures) other) c.better-winner.ensures in
     let few = self.few in
-    search rules
+    record { fits = omega arith }
 
 pub offset_bounds-slots-node : goal.offset_bounds-slots-node
 offset_bounds-slots-node g c =
     let self = c.args.self.now in
     let few = sites_few self.k self.sites self.some in
     let low : c.loop-node.node / 2 < length c.args.slots.now = omega (arith, c.requires.size, c.loop-node.invariant.low) in
-    search rules
+    search scaled_Fits
 
 pub bounds-slots-node : goal.bounds-slots-node
 bounds-slots-node g c = let self = c.args.self.now in let few = sites_few self.k self.sites self.some in omega (arith, c.requires.size, c.loop-node.invariant.low)
@@ -94,3 +95,6 @@ returns-clause-used g c = c.loop-node.invariant.used
 
 pub returns-clause-links : goal.returns-clause-links
 returns-clause-links g c = c.loop-node.invariant.links
+
+pub named-other-requires-clause-inside : goal.named-other-requires-clause-inside
+named-other-requires-clause-inside g c = sibling_low c.loop-node.node c.args.self.now.sites c.loop-node.invariant.low

@@ -1,10 +1,11 @@
-use Rattle.std.proofs.Common.{◌≡◌, ℕ, ◌<◌, ◌⊎◌, length, refl, sym, ap, ◌∙◌, subst, inl, inr, arith, rules}
+use borrow.Author.Rules.{scaled_Fits}
+use Rattle.std.proofs.Common.{◌≡◌, ℕ, ◌<◌, ◌⊎◌, length, refl, sym, ap, ◌∙◌, subst, inl, inr, arith}
 use Rattle.std.proofs.lemmas.List.{get_or_default}
 use Rattle.labels.specs.Labels.{slot, table, blank_slot}
 use Rattle.labels.specs.Tournament.{Precedes, Better}
 use Rattle.labels.proofs.Writes.{fits_on, labels_on, used_on, links_on}
 use Rattle.labels.proofs.Entering.{best_inside, entered_leads, entered_stays}
-use Rattle.labels.proofs.Nodes.{sites_few}
+use Rattle.labels.proofs.Nodes.{sites_few, site_room}
 use Rattle.routing.proofs.tournament.Tournament.enter.Goals as goal
 use Rattle.routing.proofs.tournament.Tournament.enter.Goals.{then-best-place-via-then-best-place, then-best-place-via-else-best-place+then-better-place}
 
@@ -13,7 +14,7 @@ offset_bounds-slots-site g c =
     let self = c.args.self.now in
     let few = sites_few self.k self.sites self.some in
     let low : c.args.site < length c.args.slots.now = omega (arith, c.requires.size, c.requires.here) in
-    search rules
+    search scaled_Fits
 
 pub bounds-slots-site : goal.bounds-slots-site
 bounds-slots-site g c =
@@ -39,7 +40,7 @@ offset_bounds-slots-site-then-best-place g c =
     let self = c.args.self.now in
     let few = sites_few self.k self.sites self.some in
     let low : c.args.site < length c.args.slots.now = omega (arith, c.requires.size, c.requires.here) in
-    search rules
+    search scaled_Fits
 
 pub bounds-slots-site-then-best-place : goal.bounds-slots-site-then-best-place
 bounds-slots-site-then-best-place g c =
@@ -110,3 +111,6 @@ returns-else-better-place-clause-noted g c =
     let low : site < length xs = omega (arith, c.requires.size, c.requires.here, sites_few self.k self.sites self.some) in
     let read = ap (λ z. z.best) (get_or_default xs site c.index-slots-site.result (blank_slot K) low) in
     entered_stays c.requires.entered c.requires.here c.better.result (subst (λ (b : ℕ). Better K self.limit (table K xs) b c.args.place c.better.result) read c.better.ensures) c.if-better-place.false
+
+pub better-requires-clause-right : goal.better-requires-clause-right
+better-requires-clause-right g c = let self = c.args.self.now in omega (arith, c.requires.size, c.requires.entered.adds.inside.1, site_room self.k c.args.site self.sites c.requires.here)

@@ -1,4 +1,5 @@
-use Rattle.std.proofs.Common.{◌≡◌, ℕ, ◌+◌, ◌-◌, false, List, refl, sym, subst, arith}
+use borrow.Author.Rules.{scaled_fits≤}
+use Rattle.std.proofs.Common.{◌≡◌, ℕ, ◌+◌, ◌-◌, ◌≤◌, false, List, length, refl, sym, subst, arith}
 use borrow.Rule.Slice.PartMut.{put_mid}
 use Rattle.labels.specs.declared.Slot.{Slot}
 use Rattle.labels.specs.Labels.{is_held, Held, slot, table, freed}
@@ -29,3 +30,9 @@ returns-clause-used g c =
     let used = c.used-used in
     subst (λ (zs : List (Slot g.row.M.Denot)). SameUsed (slot K c.args.slots.now) (slot K (put_mid start.result (start.result + used.result - start.result) c.args.slots.now zs))) (sym c.free_all.ensures)
     (made_stays K c.args.slots.now start.result used.result (omega (arith, start.ensures.room, used.ensures, c.requires.used, c.requires.size)) freed (λ x. x.used) (λ x. refl))
+
+pub offset_bounds-slots-start : goal.offset_bounds-slots-start
+offset_bounds-slots-start g c =
+    let start = c.first_place-start in
+    let low : start.result ≤ length c.args.slots.now = omega (arith, start.ensures.room, c.requires.size) in
+    search scaled_fits≤

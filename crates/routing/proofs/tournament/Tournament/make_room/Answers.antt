@@ -1,4 +1,5 @@
-use Rattle.std.proofs.Common.{◌≡◌, ℕ, ◌<◌, ◌+◌, false, length, get_or, set, refl, sym, ap, ◌∙◌, subst, arith, rules}
+use borrow.Author.Rules.{scaled_Fits}
+use Rattle.std.proofs.Common.{◌≡◌, ℕ, ◌<◌, ◌+◌, false, length, get_or, set, refl, sym, ap, ◌∙◌, subst, arith}
 use Rattle.std.proofs.lemmas.List.{get_or_default}
 use Rattle.labels.specs.declared.Slot.{Slot}
 use Rattle.labels.specs.Labels.{is_held, blank_slot, slot, table}
@@ -36,7 +37,7 @@ overflow_cast-slots g c =
     let few = used_few c.requires.unused c.args.site c.first_place-start.result used.result c.requires.here c.first_place-start.ensures.value (omega (arith, used.ensures, c.sweep.ensures.used c.args.site)) in
     let labels = c.args.self.now.few_labels in
     let low : used.result < 65535 = omega arith in
-    search rules
+    record { fits = omega arith }
 
 pub overflow_add-slots : goal.overflow_add-slots
 overflow_add-slots g c =
@@ -44,13 +45,13 @@ overflow_add-slots g c =
     let few = used_few c.requires.unused c.args.site c.first_place-start.result used.result c.requires.here c.first_place-start.ensures.value (omega (arith, used.ensures, c.sweep.ensures.used c.args.site)) in
     let labels = c.args.self.now.few_labels in
     let low : used.result + 1 < 65535 = omega arith in
-    search rules
+    record { fits = omega arith }
 
 pub offset_bounds-slots-site : goal.offset_bounds-slots-site
 offset_bounds-slots-site g c =
     let room = c.args.self.now.room in
     let low : c.args.site < length c.args.slots.now = omega (arith, c.requires.size, c.requires.here) in
-    search rules
+    search scaled_Fits
 
 pub overflow_add-result-2 : goal.overflow_add-result-2
 overflow_add-result-2 g c =
@@ -58,7 +59,7 @@ overflow_add-result-2 g c =
     let few = used_few c.requires.unused c.args.site c.first_place-start.result used.result c.requires.here c.first_place-start.ensures.value (omega (arith, used.ensures, c.sweep.ensures.used c.args.site)) in
     let all = c.args.self.now.few in
     let low : c.first_place-start.result + used.result < 65536 = omega (arith, c.first_place-start.ensures.room) in
-    search rules
+    record { fits = omega arith }
 
 pub returns : goal.returns
 returns g c =
@@ -87,3 +88,6 @@ returns g c =
         subst (λ (p : ℕ). is_held (slot K (set xs site y) (p + used.result)).label.state ≡ false) (sym start) more.3,
       );
     }
+
+pub overflow_add-result : goal.overflow_add-result
+overflow_add-result g c = let start = c.first_place-start in let few = used_few c.requires.unused c.args.site start.result _ c.requires.here start.ensures.value refl in let all = c.args.self.now.few in let low : start.result + c.in-Some.free < 65536 = omega (arith, start.ensures.room, c.in-Some.ensures.found.0, few) in record { fits = omega arith }

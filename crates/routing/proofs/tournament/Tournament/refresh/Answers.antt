@@ -1,4 +1,5 @@
-use Rattle.std.proofs.Common.{List, get_or, set, ◌≡◌, ℕ, ◌+◌, ◌*◌, ◌<◌, length, sym, ap, ◌∙◌, subst, arith, rules}
+use borrow.Author.Rules.{scaled_Fits}
+use Rattle.std.proofs.Common.{List, get_or, set, ◌≡◌, ℕ, ◌+◌, ◌*◌, ◌<◌, length, sym, ap, ◌∙◌, subst, arith}
 use Rattle.measure.specs.Kind.{Kind}
 use Rattle.measure.specs.declared.ratio.Ratio.{Ratio}
 use Rattle.labels.specs.declared.Label.{Label}
@@ -17,14 +18,14 @@ overflow_cast-slots g c =
     let at = c.rescan-best.ensures.at.1 in
     let few = self.few in
     let low : c.rescan-best.result < self.sites * self.k = omega arith in
-    search rules
+    record { fits = omega arith }
 
 pub offset_bounds-slots-site : goal.offset_bounds-slots-site
 offset_bounds-slots-site g c =
     let self = c.args.self.now in
     let few = sites_few self.k self.sites self.some in
     let low : c.args.site < length c.args.slots.now = omega (arith, c.requires.size, c.requires.here) in
-    search rules
+    search scaled_Fits
 
 pub bounds-slots-site : goal.bounds-slots-site
 bounds-slots-site g c = let self = c.args.self.now in let few = sites_few self.k self.sites self.some in omega (arith, c.requires.size)

@@ -59,3 +59,6 @@ returns g c =
     let site = c.args.site in
     let past : site * self.k + (slot K xs site).used ≤ c.loop-place.place = subst (λ (x : ℕ). site * self.k + x ≤ c.loop-place.place) (used K xs site self.k self.sites self.some c.requires.size c.requires.here c.index-slots-site.result c.index-slots-site.is) c.loop-place-test.false in
     scanned_all K self.limit (table K xs) (slot K xs) self.k self.sites site c.loop-place.place c.loop-place.best c.requires.here c.requires.grounds.unused past c.loop-place.invariant
+
+pub overflow_mul-start : goal.overflow_mul-start
+overflow_mul-start g c = let self = c.args.self.now in record { fits = omega (arith, self.few, site_room self.k c.args.site self.sites c.requires.here) }

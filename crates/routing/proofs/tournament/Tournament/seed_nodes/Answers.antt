@@ -1,4 +1,5 @@
-use Rattle.std.proofs.Common.{ℕ, ◌*◌, ◌-◌, ◌<◌, length, refl, sym, ◌∙◌, subst, arith, rules}
+use borrow.Author.Rules.{scaled_Fits}
+use Rattle.std.proofs.Common.{ℕ, ◌*◌, ◌-◌, ◌<◌, length, refl, sym, ◌∙◌, subst, arith}
 use Rattle.labels.specs.Labels.{slot}
 use Rattle.labels.proofs.Nodes.{sites_few}
 use Rattle.labels.proofs.Writes.{bests_on, labels_on, used_on, links_on}
@@ -18,7 +19,7 @@ offset_bounds-slots-node g c =
     let self = c.args.self.now in
     let few = sites_few self.k self.sites self.some in
     let low : c.loop-node.node - 1 < length c.args.slots.now = omega (arith, c.requires.size) in
-    search rules
+    search scaled_Fits
 
 pub bounds-slots-node : goal.bounds-slots-node
 bounds-slots-node g c =
@@ -49,3 +50,6 @@ loop-node-preserved g c =
       used = used_on K xs i _ low W r refl h.used;
       links = links_on K xs i _ low W r refl refl h.links;
     }
+
+pub returns-clause-named : goal.returns-clause-named
+returns-clause-named g c = λ i some lt. c.loop-node.invariant.names.first i (omega (arith, some, c.loop-node-test.false)) lt

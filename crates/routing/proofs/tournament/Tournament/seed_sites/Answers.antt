@@ -1,4 +1,5 @@
-use Rattle.std.proofs.Common.{◌<◌, length, refl, arith, rules}
+use borrow.Author.Rules.{scaled_Fits}
+use Rattle.std.proofs.Common.{◌<◌, length, refl, arith}
 use Rattle.labels.specs.Labels.{slot}
 use Rattle.labels.proofs.Nodes.{site_room, sites_few}
 use Rattle.labels.proofs.Writes.{labels_on, links_on}
@@ -10,7 +11,7 @@ offset_bounds-slots-site g c =
     let self = c.args.self.now in
     let few = sites_few self.k self.sites self.some in
     let low : c.loop-site.site < length c.args.slots.now = omega (arith, c.requires.size) in
-    search rules
+    search scaled_Fits
 
 pub bounds-slots-site : goal.bounds-slots-site
 bounds-slots-site g c =
@@ -39,3 +40,9 @@ loop-site-preserved g c =
       labels = labels_on K xs c.loop-site.site _ low (slot K c.args.slots.now) r refl refl c.loop-site.invariant.labels;
       links = links_on K xs c.loop-site.site _ low (slot K c.args.slots.now) r refl refl c.loop-site.invariant.links;
     }
+
+pub returns-clause-bests : goal.returns-clause-bests
+returns-clause-bests g c = λ s lt. c.loop-site.invariant.fresh.best s (omega (arith, lt, c.loop-site-test.false))
+
+pub returns-clause-unused : goal.returns-clause-unused
+returns-clause-unused g c = λ s lt. c.loop-site.invariant.fresh.used s (omega (arith, lt, c.loop-site-test.false))

@@ -1,4 +1,5 @@
-use Rattle.std.proofs.Common.{◌<◌, length, get_or, refl, ◌∙◌, arith, rules}
+use borrow.Author.Rules.{scaled_Fits}
+use Rattle.std.proofs.Common.{◌<◌, length, get_or, refl, ◌∙◌, arith}
 use Rattle.std.proofs.lemmas.List.{get_or_default}
 use Rattle.labels.specs.Labels.{blank_slot}
 use Rattle.labels.proofs.Putting.{settles_same, settled_fits, settled_but, settled_settles, settled_links}
@@ -9,7 +10,7 @@ pub offset_bounds-slots-h : goal.offset_bounds-slots-h
 offset_bounds-slots-h g c =
     let self = c.args.self.now in
     let low : c.args.h < length c.args.slots.now = omega (arith, c.requires.at.1, site_room self.k c.args.site self.sites c.requires.here, c.requires.size) in
-    search rules
+    search scaled_Fits
 
 pub refresh-requires-clause-fits : goal.refresh-requires-clause-fits
 refresh-requires-clause-fits g c =
@@ -48,3 +49,9 @@ returns g c =
       noted = done.noted;
       links = λ p. ((done.links p).0 ∙ (before p).0, (done.links p).1 ∙ (before p).1);
     }
+
+pub bounds-slots-h : goal.bounds-slots-h
+bounds-slots-h g c = let self = c.args.self.now in omega (arith, c.requires.at.1, site_room self.k c.args.site self.sites c.requires.here, c.requires.size)
+
+pub bounds-slots-h-2 : goal.bounds-slots-h-2
+bounds-slots-h-2 g c = let self = c.args.self.now in omega (arith, c.requires.at.1, site_room self.k c.args.site self.sites c.requires.here, c.requires.size)

@@ -1,4 +1,5 @@
-use Rattle.std.proofs.Common.{ℕ, false, ◌≡◌, ◌≤◌, position, List, ◌<◌, ◌+◌, ◌*◌, ◌-◌, sym, ap, ◌∙◌, subst, arith}
+use borrow.Author.Rules.{scaled_fits≤}
+use Rattle.std.proofs.Common.{ℕ, false, ◌≡◌, ◌≤◌, position, List, length, ◌<◌, ◌+◌, ◌*◌, ◌-◌, sym, ap, ◌∙◌, subst, arith}
 use Rattle.std.specs.Prelude.{MatchOption}
 use borrow.Rule.Slice.PartMut.{put_mid}
 use Rattle.labels.specs.declared.Slot.{Slot}
@@ -39,3 +40,25 @@ returns-clause-found g c =
     ((p : ℕ) → c.args.site * c.args.self.now.k ≤ p → p < c.args.site * c.args.self.now.k + (slot K c.args.slots.now c.args.site).used → Held (table K (put_mid start.result (start.result + used.result - start.result) c.args.slots.now zs)) p)
     (λ x. (x < (slot K c.args.slots.now c.args.site).used) × (is_held (table K (put_mid start.result (start.result + used.result - start.result) c.args.slots.now zs) (c.args.site * c.args.self.now.k + x)).state ≡ false)))
     (sym c.clear_dominated.ensures) (swept_found g.M.Measure.kind c.args.slots.now c.args.self.now.k c.args.site start.result used.result start.ensures.value few (omega (arith, few, start.ensures.room, c.requires.size)) past c.args.value used.ensures c.free_place.result (c.free_place.ensures ∙ ap (position is_free) c.clear_dominated.ensures))
+
+pub offset_bounds-slots-start : goal.offset_bounds-slots-start
+offset_bounds-slots-start g c =
+    let start = c.first_place-start in
+    let low : start.result ≤ length c.args.slots.now = omega (arith, start.ensures.room, c.requires.size) in
+    search scaled_fits≤
+
+pub overflow_add-there : goal.overflow_add-there
+overflow_add-there g c =
+    let start = c.first_place-start in
+    let used = c.used-used in
+    let few = used_few c.requires.unused c.args.site start.result used.result c.requires.here start.ensures.value used.ensures in
+    let all = c.args.self.now.few in
+    record { fits = omega (arith, few, start.ensures.room, all) }
+
+pub slice_bounds-there-end : goal.slice_bounds-there-end
+slice_bounds-there-end g c =
+    let start = c.first_place-start in
+    let used = c.used-used in
+    let few = used_few c.requires.unused c.args.site start.result used.result c.requires.here start.ensures.value used.ensures in
+    let low : start.result + used.result ≤ length c.args.slots.now = omega (arith, few, start.ensures.room, c.requires.size) in
+    search low
