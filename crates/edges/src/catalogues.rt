@@ -79,6 +79,7 @@ fn check_removals(
     }
 }
 
+// In 32 places, between 16 sites: what is stored, then given another value, and then taken back.
 const LAST_STORED: [(usize, Numbers, Result<(), Refusal>); 7] = [
     (31, (15, 0, 1), Ok(())),
     (32, (15, 0, 1), Err(Refusal::NoSuchLink)),
@@ -109,6 +110,7 @@ fn places_and_sites_at_their_last(rt: HostRuntime) {
     check_removals(&rt, &mut catalogue, &LAST_REMOVED);
 }
 
+// In two places, between two sites: the greatest value, and the first that is refused.
 const GREATEST_STORED: [(usize, Numbers, Result<(), Refusal>); 2] = [
     (0, (0, 1, 2147483647), Ok(())),
     (0, (1, 0, 2147483648), Err(Refusal::ValueNotAdmitted)),

@@ -13,6 +13,7 @@ fn check_limit<M: Measure>(rt: &impl Abort, number: u32, limit: M::Limit, admitt
     check_at(rt, number, M::limit_admitted(limit), admitted);
 }
 
+// Numbers, and whether a limit may have them.
 const LIMITS: [(u32, bool); 5] = [
     (0, false),
     (1, true),
@@ -52,6 +53,7 @@ fn check_joined<M: Measure + PartialEq + Debug>(rt: &impl Abort, value: M, next:
     check_same(rt, value.join(next), joined);
 }
 
+// Numbers, and whether a value may have them.
 const NUMBERS: [(u32, bool); 4] = [
     (0, true),
     (LAST, true),

@@ -1,9 +1,8 @@
 //! Routes that are refused before routing begins, for the first cause in order, and the row left as it was.
 use crate::checks::*;
-use catalogue::Catalogue;
 use measure::Measure;
 use report::Refusal;
-use routing::free_slot;
+use routing::{Route, free_slot};
 use std::process::Abort;
 use std::test::Fail;
 
@@ -11,38 +10,43 @@ type Pairs = (u32, u32);
 
 const TENS: Pairs = (10, 10);
 
+// One link between two sites.
 const LINKS: [Joined<Pairs>; 1] = [(0, 1, (1, 1))];
 
 // A question, with so many labels in all and numbers in the row.
 type Attempt<N> = (Asked<N>, usize, usize);
 
-// The attempt at a route is refused, and a row of two numbers, of which the first are lent, left as it was.
-fn check_attempt<M: Measure, N: Numbers<M>>(
-    rt: &(impl Abort + Alloc),
-    network: &Catalogue<'_, M>,
+// What an attempt leaves: its answer, and a row of two numbers.
+type Left<M> = (Result<Option<Route<M>>, Refusal>, [u16; 2]);
+
+// The attempt at a route, in a network of two sites and so many places, with the links from the first place on. The row holds nines, and as
+// many of its numbers are lent as the attempt says.
+fn attempt<M: Measure, N: Numbers<M>>(
+    rt: &impl Alloc,
+    (places, first): (usize, usize),
+    links: &[Joined<N>],
     (asked, size, numbers): Attempt<N>,
-    why: Refusal,
-) -> Result<(), Fail> {
+) -> Result<Left<M>, Fail> {
+    let mut places = vec![in rt.alloc(); None; places]?;
     let mut labels = vec![in rt.alloc(); free_slot::<M>(); size]?;
     let mut row = [9; 2];
-    let answer = answer(network, &mut labels, asked, &mut row[0..numbers.min(2)]);
-    let (k, ..) = asked;
-    check_same(rt, (size, k, answer.err()), (size, k, Some(why)));
-    check_same(rt, row, [9; 2]);
-    Ok(())
+    let network = opened(&mut places, 2, first, links)?;
+    let answer = answer(&network, &mut labels, asked, &mut row[0..numbers.min(2)]);
+    Ok((answer, row))
 }
 
-// Each attempt at a route in a network of two sites with these links, in one place, is refused.
+// Each attempt at a route in a network with these links, in one place, is refused, and the row left as it was.
 fn check_refused<M: Measure, N: Numbers<M>>(
     rt: &(impl Abort + Alloc),
     links: &[Joined<N>],
     attempts: &[Attempt<N>],
     why: Refusal,
 ) -> Result<(), Fail> {
-    let mut places = vec![in rt.alloc(); None; 1]?;
-    let network = opened(&mut places, 2, 0, links)?;
-    for &attempt in attempts {
-        check_attempt(rt, &network, attempt, why)?;
+    for &attempted in attempts {
+        let ((k, ..), size, _) = attempted;
+        let (answer, row) = attempt::<M, N>(rt, (1, 0), links, attempted)?;
+        check_same(rt, (size, k, answer.err()), (size, k, Some(why)));
+        check_same(rt, row, [9; 2]);
     }
     Ok(())
 }
@@ -120,29 +124,16 @@ fn the_most_labels_and_the_least_limit(rt: HostRuntime) -> Result<(), Fail> {
     check_answers::<Two, _, _>(&rt, sizes, &LINKS, &cases)
 }
 
-// The one leg of the route from site 0 to site 1 is the link at place 1.
-fn check_leg<M: Measure, N: Numbers<M>>(
-    rt: &(impl Abort + Alloc),
-    network: &Catalogue<'_, M>,
-    limit: N,
-) -> Result<(), Fail> {
-    let mut labels = vec![in rt.alloc(); free_slot::<M>(); 2]?;
-    let mut row = [9; 2];
-    let found = answer(network, &mut labels, (1, 0, 1, limit), &mut row)?;
-    check_same(rt, found.is_some(), true);
-    check_same(rt, row, [1, 0]);
-    Ok(())
-}
-
-// In a network of two sites and two places, with the link at place 1, that is the route under the limit.
+// The link, at place 1 of two, is the route from site 0 to site 1 under the limit.
 fn check_just_held<M: Measure, N: Numbers<M>>(
     rt: &(impl Abort + Alloc),
     links: &[Joined<N>],
     limit: N,
 ) -> Result<(), Fail> {
-    let mut places = vec![in rt.alloc(); None; 2]?;
-    let network = opened(&mut places, 2, 1, links)?;
-    check_leg(rt, &network, limit)
+    let (answer, row) = attempt::<M, N>(rt, (2, 1), links, ((1, 0, 1, limit), 2, 2))?;
+    check_same(rt, answer?.is_some(), true);
+    check_same(rt, row, [1, 0]);
+    Ok(())
 }
 
 #[test]
