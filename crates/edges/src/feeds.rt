@@ -1,5 +1,6 @@
 //! Records cut short by every length, unknown kinds, and measures past the last that is admitted.
-use feed::{Measures, Record, read_record, write_record};
+use crate::checks::check_at;
+use feed::{Measures, Reading, Record, read_record, write_record};
 use report::Refusal;
 use std::process::Abort;
 
@@ -42,31 +43,37 @@ const RECORDS: [(Record, usize); 7] = [
     (Record::Read { card: 256 }, 5),
 ];
 
+// What a record answers that is written at place 2, as all of them are here.
+fn write_at_2(record: Record, buffer: &mut [u8]) -> Result<usize, Refusal> {
+    write_record(record, buffer, 2)
+}
+
+// What is read at the place, and how many bytes are left.
+fn read_at(bytes: &[u8], place: usize) -> (Reading, usize) {
+    let (reading, rest) = read_record(bytes, place);
+    (reading, rest.len())
+}
+
 #[test]
 fn every_record_comes_back(rt: HostRuntime) {
     for (record, end) in RECORDS {
-        let mut buffer = [9u8; 24];
-        assert_eq!(rt; write_record(record, &mut buffer, 2), Ok(end));
-        let (reading, rest) = read_record(&buffer, 2);
-        assert_eq!(rt; reading, Ok(Some(record)));
-        assert_eq!(rt; rest.len(), 24 - end);
+        let mut buffer = [9; 24];
+        check_at(&rt, end, write_at_2(record, &mut buffer), Ok(end));
+        check_at(&rt, end, read_at(&buffer, 2), (Ok(Some(record)), 24 - end));
     }
 }
 
 // The record that ends there is cut short at every length.
 fn check_cut_short(rt: &impl Abort, record: Record, end: usize) {
-    let mut buffer = [9u8; 24];
-    assert_eq!(rt; write_record(record, &mut buffer, 2), Ok(end));
+    let mut buffer = [9; 24];
+    check_at(rt, end, write_at_2(record, &mut buffer), Ok(end));
     for length in 3..end {
-        let (reading, rest) = read_record(&buffer[0..length.min(24)], 2);
-        assert_eq!(rt;
-            reading,
-            Err(Refusal::CutShort {
-                place: 2,
-                missing: end.saturating_sub(length),
-            })
-        );
-        assert!(rt; rest.is_empty());
+        let cut_short = Refusal::CutShort {
+            place: 2,
+            missing: end.saturating_sub(length),
+        };
+        let came = read_at(&buffer[0..length.min(24)], 2);
+        check_at(rt, length, came, (Err(cut_short), 0));
     }
 }
 
@@ -80,10 +87,10 @@ fn every_record_is_cut_short_at_every_length(rt: HostRuntime) {
 // The record that would end there is not written into less room.
 fn check_too_short(rt: &impl Abort, record: Record, end: usize) {
     for length in 0..end {
-        let mut buffer = [9u8; 24];
-        let part = &mut buffer[0..length.min(24)];
-        assert_eq!(rt; write_record(record, part, 2), Err(Refusal::BufferTooShort));
-        assert_eq!(rt; buffer, [9u8; 24]);
+        let mut buffer = [9; 24];
+        let came = write_at_2(record, &mut buffer[0..length.min(24)]);
+        check_at(rt, length, came, Err(Refusal::BufferTooShort));
+        check_at(rt, length, buffer, [9; 24]);
     }
 }
 
@@ -97,20 +104,16 @@ fn too_short_a_buffer_is_left_as_it_was(rt: HostRuntime) {
 #[test]
 fn other_kinds_are_unknown(rt: HostRuntime) {
     for kind in 0..=255u8 {
-        let bytes = [3, kind, 0, 0];
-        let (reading, rest) = read_record(&bytes, 1);
+        let (reading, left) = read_at(&[3, kind, 0, 0], 1);
         let unknown = reading == Err(Refusal::UnknownKind { place: 1 });
-        assert_eq!(rt; unknown, kind < 1 || 7 < kind);
-        assert!(rt; rest.is_empty());
+        let place = usize::from(kind);
+        check_at(&rt, place, (unknown, left), (kind < 1 || 7 < kind, 0));
     }
 }
 
 #[test]
 fn nothing_stands_past_the_end(rt: HostRuntime) {
     for start in [3, 4, usize::MAX] {
-        let bytes = [3, 0, 0];
-        let (reading, rest) = read_record(&bytes, start);
-        assert_eq!(rt; reading, Ok(None));
-        assert!(rt; rest.is_empty());
+        check_at(&rt, start, read_at(&[3, 0, 0], start), (Ok(None), 0));
     }
 }

@@ -4,6 +4,8 @@
 #[cfg(test)]
 mod catalogues;
 #[cfg(test)]
+mod checks;
+#[cfg(test)]
 mod feeds;
 #[cfg(test)]
 mod lines;

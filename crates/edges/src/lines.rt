@@ -1,4 +1,5 @@
 //! Each sort of line, byte for byte, and buffers that just hold one.
+use crate::checks::{check_at, check_same};
 use line::{Reply, write_line};
 use measure::Ratio;
 use measure::pair::trunk_value;
@@ -11,11 +12,11 @@ type Case<'a> = (usize, Reply, &'a [u16], &'a [u8]);
 
 // Each line is written as its bytes, at place 3 of a buffer, and nothing before it.
 fn check_lines(rt: &impl Abort, cases: &[Case<'_>]) -> Result<(), Fail> {
-    for (number, reply, legs, bytes) in cases.iter().copied() {
+    for &(number, reply, legs, bytes) in cases {
         let mut buffer = [0u8; 80];
         let end = write_line(number, reply, legs, &mut buffer, 3)?;
-        assert_eq!(rt; buffer.get(3..end), Some(bytes), "of line {number}");
-        assert_eq!(rt; (buffer[0], buffer[2]), (0, 0));
+        check_at(rt, number, buffer.get(3..end), Some(bytes));
+        check_at(rt, number, (buffer[0], buffer[2]), (0, 0));
     }
     Ok(())
 }
@@ -71,20 +72,19 @@ fn lines_of_refusals(rt: HostRuntime) -> Result<(), Fail> {
     Ok(())
 }
 
+// A line of seven bytes.
+fn write_counted(buffer: &mut [u8], place: usize) -> Result<usize, Refusal> {
+    write_line(1, Reply::Counted(0), &[], buffer, place)
+}
+
 #[test]
 fn a_line_needs_all_its_room(rt: HostRuntime) {
     let mut buffer = [7u8; 9];
     for place in [3, 10, usize::MAX] {
-        assert_eq!(rt;
-            write_line(1, Reply::Counted(0), &[], &mut buffer, place),
-            Err(Refusal::BufferTooShort),
-            "at {place}"
-        );
+        let end = write_counted(&mut buffer, place);
+        check_at(&rt, place, end, Err(Refusal::BufferTooShort));
     }
-    assert_eq!(rt; buffer, [7u8; 9]);
-    assert_eq!(rt;
-        write_line(1, Reply::Counted(0), &[], &mut buffer, 2),
-        Ok(9)
-    );
-    assert_eq!(rt; buffer, *b"\x07\x071 ok 0\n");
+    check_same(&rt, buffer, [7; 9]);
+    check_same(&rt, write_counted(&mut buffer, 2), Ok(9));
+    check_same(&rt, buffer, *b"\x07\x071 ok 0\n");
 }

@@ -105,10 +105,15 @@ pub(crate) fn ask<M: Measure>(
     }
 }
 
+// What came is what was wanted. The assertion is proved here once, for values of any type.
+pub(crate) fn check_same<T: Copy + PartialEq + Debug>(rt: &impl Abort, came: T, want: T) {
+    assert_eq!(rt; came, want);
+}
+
 // Each number of the row is this one.
 pub(crate) fn check_all(rt: &impl Abort, row: &[u16], want: u16) {
     for &number in row {
-        assert_eq!(rt; number, want);
+        check_same(rt, number, want);
     }
 }
 
@@ -120,37 +125,97 @@ fn check_legs<M: Measure + PartialEq + Debug>(
     source: u16,
     destination: u16,
     row: &[u16],
-    route: &Route<M>,
+    route: Route<M>,
 ) -> Result<(), Fail> {
     let (legs, rest) = row.split_at_checked(route.legs).ok_or("too many legs")?;
     let end = Reached {
         site: destination,
         value: route.value,
     };
-    assert_eq!(rt; follow(network, source, legs), Some(end));
+    check_same(rt, follow(network, source, legs), Some(end));
     check_all(rt, rest, 0);
     Ok(())
 }
 
-// This is found for the question, with the first of the labels that are lent. A refusal leaves the row as it was.
+// What routing answers. Its contract is met here alone, so that no test has to carry it.
+pub(crate) fn answer<M: Measure, N: Numbers<M>>(
+    network: &Catalogue<'_, M>,
+    labels: &mut [Slot<M>],
+    (k, source, destination, limit): Asked<N>,
+    row: &mut [u16],
+) -> Result<Option<Route<M>>, Refusal> {
+    let asked = ask(source, destination, limit);
+    find_route(network, labels, k, asked, row)
+}
+
+// The value and the ratio of the route that is answered.
+fn found<M: Measure>(
+    answer: Result<Option<Route<M>>, Refusal>,
+) -> Result<Option<(M, Ratio)>, Refusal> {
+    match answer? {
+        Some(route) => Ok(Some((route.value, route.ratio))),
+        None => Ok(None),
+    }
+}
+
+// The row holds the legs of a route, and zeros where there is none. A refusal leaves it as it was.
+fn check_row<M: Measure + PartialEq + Debug>(
+    rt: &impl Abort,
+    network: &Catalogue<'_, M>,
+    source: u16,
+    destination: u16,
+    row: &[u16],
+    answer: Result<Option<Route<M>>, Refusal>,
+) -> Result<(), Fail> {
+    match answer {
+        Ok(Some(route)) => check_legs(rt, network, source, destination, row, route)?,
+        Ok(None) => check_all(rt, row, 0),
+        Err(_) => check_all(rt, row, 9),
+    }
+    Ok(())
+}
+
+// This is found for the question, with the first of the labels that are lent.
 fn check_answer<M: Measure + PartialEq + Debug, N: Numbers<M>>(
     rt: &impl Abort,
     network: &Catalogue<'_, M>,
     labels: &mut [Slot<M>],
-    (k, source, destination, limit): Asked<N>,
+    asked: Asked<N>,
     want: Want<N>,
 ) -> Result<(), Fail> {
+    let (k, source, destination, _) = asked;
     let mut row = [9; 16];
     let size = network.sites().saturating_mul(k).min(labels.len());
-    let asked = ask(source, destination, limit);
-    let answer = find_route(network, &mut labels[0..size], k, asked, &mut row);
-    match &answer {
-        Ok(Some(route)) => check_legs(rt, network, source, destination, &row, route)?,
-        Ok(None) => assert_eq!(rt; row, [0; 16]),
-        Err(_) => assert_eq!(rt; row, [9; 16]),
+    let answer = answer(network, &mut labels[0..size], asked, &mut row);
+    check_same(rt, found(answer), want.found());
+    check_row(rt, network, source, destination, &row, answer)
+}
+
+// A network over these places, with the links from the first place on.
+pub(crate) fn opened<'a, M: Measure, N: Numbers<M>>(
+    places: &'a mut [Option<Link<M>>],
+    sites: usize,
+    first: usize,
+    links: &[Joined<N>],
+) -> Result<Catalogue<'a, M>, Refusal> {
+    let mut network = Catalogue::open(places, sites);
+    for (place, &joined) in links.iter().enumerate() {
+        network.store(first.saturating_add(place), link(joined))?;
     }
-    let found = answer.map(|best| best.map(|route| (route.value, route.ratio)));
-    assert_eq!(rt; found, want.found());
+    Ok(network)
+}
+
+// What stands beside the questions is found for them, with so many labels to lend.
+fn check_cases<M: Measure + PartialEq + Debug, N: Numbers<M>>(
+    rt: &(impl Abort + Alloc),
+    network: &Catalogue<'_, M>,
+    labels: usize,
+    cases: &[Case<N>],
+) -> Result<(), Fail> {
+    let mut labels = vec![in rt.alloc(); free_slot::<M>(); labels]?;
+    for &(asked, want) in cases {
+        check_answer(rt, network, &mut labels, asked, want)?;
+    }
     Ok(())
 }
 
@@ -162,15 +227,8 @@ pub(crate) fn check_answers<M: Measure + PartialEq + Debug, N: Numbers<M>, R: Ab
     cases: &[Case<N>],
 ) -> Result<(), Fail> {
     let mut places = vec![in rt.alloc(); None; sizes.places]?;
-    let mut labels = vec![in rt.alloc(); free_slot::<M>(); sizes.labels]?;
-    let mut network = Catalogue::open(&mut places, sizes.sites);
-    for (place, &joined) in links.iter().enumerate() {
-        network.store(place, link(joined))?;
-    }
-    for &(asked, want) in cases {
-        check_answer(rt, &network, &mut labels, asked, want)?;
-    }
-    Ok(())
+    let network = opened(&mut places, sizes.sites, 0, links)?;
+    check_cases(rt, &network, sizes.labels, cases)
 }
 
 // The same, where each link stands in both directions, one after the other.

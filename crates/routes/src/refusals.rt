@@ -1,8 +1,8 @@
 //! Routes that are refused before routing begins, for the first cause in order, and the row left as it was.
 use crate::checks::*;
-use catalogue::Catalogue;
+use measure::Measure;
 use report::Refusal;
-use routing::{find_route, free_slot};
+use routing::{Route, free_slot};
 use std::process::Abort;
 use std::test::Fail;
 
@@ -10,25 +10,43 @@ type Pairs = (u32, u32);
 
 const TENS: Pairs = (10, 10);
 
-// A question, with so many labels in all and numbers in the row.
-type Attempt = (Asked<Pairs>, usize, usize);
+// One link between two sites.
+const LINKS: [Joined<Pairs>; 1] = [(0, 1, (1, 1))];
 
-// Each attempt at a route between two sites is refused.
-fn check_refused(
+// A question, with so many labels in all and numbers in the row.
+type Attempt<N> = (Asked<N>, usize, usize);
+
+// What an attempt leaves: its answer, and a row of two numbers.
+type Left<M> = (Result<Option<Route<M>>, Refusal>, [u16; 2]);
+
+// The attempt at a route, in a network of two sites and so many places, with the links from the first place on. The row holds nines, and as
+// many of its numbers are lent as the attempt says.
+fn attempt<M: Measure, N: Numbers<M>>(
+    rt: &impl Alloc,
+    (places, first): (usize, usize),
+    links: &[Joined<N>],
+    (asked, size, numbers): Attempt<N>,
+) -> Result<Left<M>, Fail> {
+    let mut places = vec![in rt.alloc(); None; places]?;
+    let mut labels = vec![in rt.alloc(); free_slot::<M>(); size]?;
+    let mut row = [9; 2];
+    let network = opened(&mut places, 2, first, links)?;
+    let answer = answer(&network, &mut labels, asked, &mut row[0..numbers.min(2)]);
+    Ok((answer, row))
+}
+
+// Each attempt at a route in a network with these links, in one place, is refused, and the row left as it was.
+fn check_refused<M: Measure, N: Numbers<M>>(
     rt: &(impl Abort + Alloc),
-    attempts: &[Attempt],
+    links: &[Joined<N>],
+    attempts: &[Attempt<N>],
     why: Refusal,
 ) -> Result<(), Fail> {
-    let mut places = [None; 1];
-    let mut network = Catalogue::open(&mut places, 2);
-    network.store(0, link((0, 1, (1, 1))))?;
-    for &((k, source, destination, limit), size, numbers) in attempts {
-        let mut labels = vec![in rt.alloc(); free_slot::<Two>(); size]?;
-        let mut row = vec![in rt.alloc(); 9u16; numbers]?;
-        let asked = ask(source, destination, limit);
-        let answer = find_route(&network, &mut labels, k, asked, &mut row);
-        assert_eq!(rt; answer.err(), Some(why), "with {size} labels, {k} a site");
-        check_all(rt, &row, 9);
+    for &attempted in attempts {
+        let ((k, ..), size, _) = attempted;
+        let (answer, row) = attempt::<M, N>(rt, (1, 0), links, attempted)?;
+        check_same(rt, (size, k, answer.err()), (size, k, Some(why)));
+        check_same(rt, row, [9; 2]);
     }
     Ok(())
 }
@@ -42,7 +60,7 @@ fn no_such_site(rt: HostRuntime) -> Result<(), Fail> {
             ((1, source, destination, (0, 10)), 2, 2),
             ((0, source, destination, (10, 0)), 1, 1),
         ];
-        check_refused(&rt, &attempts, Refusal::NoSuchSite)?;
+        check_refused::<Two, _>(&rt, &LINKS, &attempts, Refusal::NoSuchSite)?;
     }
     Ok(())
 }
@@ -55,7 +73,7 @@ fn limits_that_are_not_admitted(rt: HostRuntime) -> Result<(), Fail> {
             ((0, 0, 1, limit), 0, 2),
             ((1, 0, 1, limit), 3, 0),
         ];
-        check_refused(&rt, &attempts, Refusal::LimitNotAdmitted)?;
+        check_refused::<Two, _>(&rt, &LINKS, &attempts, Refusal::LimitNotAdmitted)?;
     }
     Ok(())
 }
@@ -78,7 +96,7 @@ const MISFITS: [(usize, usize); 10] = [
 fn workspaces_of_another_size(rt: HostRuntime) -> Result<(), Fail> {
     for (size, k) in MISFITS {
         let attempts = [((k, 0, 1, TENS), size, 2), ((k, 0, 1, TENS), size, 1)];
-        check_refused(&rt, &attempts, Refusal::WorkspaceSize)?;
+        check_refused::<Two, _>(&rt, &LINKS, &attempts, Refusal::WorkspaceSize)?;
     }
     Ok(())
 }
@@ -90,7 +108,7 @@ fn rows_too_short(rt: HostRuntime) -> Result<(), Fail> {
             ((1, 0, 1, TENS), 2, numbers),
             ((64, 1, 1, (1, 1)), 128, numbers),
         ];
-        check_refused(&rt, &attempts, Refusal::ReplyTooShort)?;
+        check_refused::<Two, _>(&rt, &LINKS, &attempts, Refusal::ReplyTooShort)?;
     }
     Ok(())
 }
@@ -103,19 +121,22 @@ fn the_most_labels_and_the_least_limit(rt: HostRuntime) -> Result<(), Fail> {
         labels: 128,
     };
     let cases = [((64, 0, 1, (1, 1)), Want::Best((1, 1), 1, 1))];
-    check_answers::<Two, _, _>(&rt, sizes, &[(0, 1, (1, 1))], &cases)
+    check_answers::<Two, _, _>(&rt, sizes, &LINKS, &cases)
+}
+
+// The link, at place 1 of two, is the route from site 0 to site 1 under the limit.
+fn check_just_held<M: Measure, N: Numbers<M>>(
+    rt: &(impl Abort + Alloc),
+    links: &[Joined<N>],
+    limit: N,
+) -> Result<(), Fail> {
+    let (answer, row) = attempt::<M, N>(rt, (2, 1), links, ((1, 0, 1, limit), 2, 2))?;
+    check_same(rt, answer?.is_some(), true);
+    check_same(rt, row, [1, 0]);
+    Ok(())
 }
 
 #[test]
 fn a_row_that_just_holds_the_sites(rt: HostRuntime) -> Result<(), Fail> {
-    let mut places = [None; 2];
-    let mut labels = [free_slot::<Two>(); 2];
-    let mut row = [9u16; 2];
-    let mut network = Catalogue::open(&mut places, 2);
-    network.store(1, link((0, 1, (1, 1))))?;
-    let asked = ask(0, 1, (2147483647, 1));
-    let found = find_route(&network, &mut labels, 1, asked, &mut row)?;
-    assert!(rt; found.is_some());
-    assert_eq!(rt; row, [1, 0]);
-    Ok(())
+    check_just_held::<Two, _>(&rt, &LINKS, (2147483647, 1))
 }
