@@ -6,9 +6,9 @@ ghost use Rattle.doubt.specs.News.{rule_of};
 ghost use Rattle.book.specs.Stores.{book_of, SamePlaces};
 ghost use Rattle.book.specs.Answers.{Spread};
 
-use crate::QuoteBook;
+use crate::{QuoteBook, write_place};
 use cards::MarkEvent;
-use doubt::{News, after_news, falls, is_struck};
+use doubt::{Cards, News, after_news, falls, is_struck};
 use measure::Measure;
 
 // Marks the card at the place where the news strikes it, and answers whether it went from standing to doubtful.
@@ -25,8 +25,8 @@ fn mark_card<M: Measure>(book: &mut QuoteBook<'_, M, M::Limit>, place: usize, ne
     } else {
         MarkEvent::Spared
     };
-    let was = book.cards[place];
-    book.cards[place] = after_news(was, event);
+    let was = book.card(place);
+    write_place(book.cards, place, after_news(was, event));
     falls(was, event)
 }
 

@@ -41,6 +41,3 @@ module _ {V L : Type 0} {K : Kind V L} {m : Memory V L} {labels : List (Slot V)}
   pub on_reading : {card start : ℕ} {r : Result (Mark × Option (Route V)) Refusal} {numbers' : List ℕ} →
       call ≡ Read card start → Shown m.book card start numbers r numbers' → reply ≡ showing r → Outcome K m (lent labels numbers) call reply m (lent labels numbers')
   on_reading same o is = as_called same is (by_reading o)
-
--- each call is a step
-pub ruleset steps = (on_offer, on_change, on_withdrawal, on_quote, on_recheck, on_discard, on_reading)

@@ -23,7 +23,6 @@ fn standing<M: Copy>(answer: Option<Route<M>>) -> Answer<M>
 }
 
 // Carries out the call, with an arm for each, and says its outcome; `perform` adds the law over whole runs.
-#[tactic(auto, using(crate::proofs::Running::steps))]
 fn carry_out<M: Measure>(
     catalogue: &mut Catalogue<'_, M>,
     book: &mut QuoteBook<'_, M, M::Limit>,
