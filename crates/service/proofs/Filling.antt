@@ -1,5 +1,6 @@
 -- What is read into the rest of a buffer comes behind what was read before.
-use Rattle.std.proofs.Common.{◌≡◌, ℕ, ◌+◌, ◌-◌, ◌≤◌, List, ◌++◌, length, take, ap, ◌∙◌, sym, arith}
+use Rattle.std.proofs.Common.{◌≡◌, ℕ, ◌+◌, ◌-◌, ◌≤◌, List, ◌++◌, length, take, drop, ap, ◌∙◌, sym, arith}
+use Rattle.std.proofs.lemmas.Grind.{common_steps}
 use Rattle.std.proofs.lemmas.List.{take-append-le, length-take-le, length-append}
 use Rattle.std.proofs.Math.Seq.{take-append-add}
 use borrow.Rule.Slice.PartMut.{put_mid, post_of}
@@ -17,3 +18,7 @@ pub took_fits : (buffer room : List ℕ) (got n : ℕ) → got ≤ length buffer
 took_fits buffer room got n h k =
     let post = post_of got (length buffer - got) buffer in
     omega (arith, length-append (take got buffer) (room ++ post), length-append room post, length-take-le got buffer h)
+
+-- what is put at a buffer's head is what stands in front
+pub put_first : (bytes was is : List ℕ) (n : ℕ) → n ≡ 0 + length bytes → is ≡ take 0 was ++ (bytes ++ drop n was) → take (n - 0) is ≡ bytes
+put_first bytes was is n h e = grind (arith, common_steps)
