@@ -91,6 +91,19 @@ fn try_call<M: Kind>(
     })
 }
 
+// Makes a run of calls. It stands by itself, so that a check of it need not carry the memory that the catalogue is opened over.
+fn try_calls<M: Kind>(
+    trial: &mut Trial<'_, M, M::Limit>,
+    random: &mut Random,
+    style: Style,
+) -> Result<(), Difference> {
+    for _ in 0..CALLS {
+        try_call(trial, random, style)?;
+    }
+    count(&mut trial.tally.catalogues);
+    Ok(())
+}
+
 // Opens a catalogue and its quote book, and another quote book of another size, and makes a run of calls.
 fn try_catalogue<M: Kind>(
     alloc: Global,
@@ -117,14 +130,22 @@ fn try_catalogue<M: Kind>(
         model: Model::open(alloc, sites, places, card_places)?,
         tally,
     };
-    for _ in 0..CALLS {
-        try_call(&mut trial, random, style)?;
-    }
-    count(&mut trial.tally.catalogues);
-    Ok(())
+    try_calls(&mut trial, random, style)
 }
 
-// Tries catalogues of one kind, one after the other in the same places, and beside each a size of others and the bytes of a feed.
+// Tries a catalogue, and beside it sizes of others and the bytes of a feed.
+fn try_one<M: Kind>(
+    alloc: Global,
+    memory: &mut Memory<M, M::Limit>,
+    random: &mut Random,
+    tally: &mut Tally,
+) -> Result<(), Difference> {
+    try_catalogue(alloc, memory, random, tally)?;
+    try_sizes(random, tally)?;
+    try_bytes(random, tally)
+}
+
+// Tries catalogues of one kind, one after the other in the same places.
 pub(crate) fn try_kind<M: Kind>(
     alloc: Global,
     random: &mut Random,
@@ -132,9 +153,7 @@ pub(crate) fn try_kind<M: Kind>(
 ) -> Result<(), Difference> {
     let mut memory = lend::<M>(alloc)?;
     for _ in 0..CATALOGUES {
-        try_catalogue(alloc, &mut memory, random, tally)?;
-        try_sizes(random, tally)?;
-        try_bytes(random, tally)?;
+        try_one(alloc, &mut memory, random, tally)?;
     }
     Ok(())
 }

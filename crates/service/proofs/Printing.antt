@@ -1,5 +1,5 @@
 -- What is printed of a feed, record by record.
-use Rattle.std.proofs.Common.{◌≡◌, ℕ, ◌+◌, List, ◌++◌, drop, Some, Ok, Err, Option, Result, IsErrAnd, inl, inr, refl, ap, ◌∙◌, sym, subst}
+use Rattle.std.proofs.Common.{◌≡◌, ℕ, ◌+◌, ◌-◌, List, ◌++◌, length, take, drop, Some, Ok, Err, Option, Result, IsErrAnd, inl, inr, refl, ap, ◌∙◌, sym, subst, arith}
 use Rattle.std.proofs.KnownBytes.{Appends-trans}
 use Rattle.std.specs.Io.KnownBytes.{Appends}
 use Rattle.records.specs.declared.Record.{Record}
@@ -9,6 +9,9 @@ use Rattle.service.specs.declared.serving.Service.{Service}
 use Rattle.service.specs.Serving.{TrunkValue, TrunkLimits, Served}
 use Rattle.service.specs.Services.{Room, memory_in, lent_by, room_in, SameService}
 use Rattle.service.specs.declared.ServiceError.{ServiceError}
+use Rattle.service.specs.declared.ServiceError.TheVariants as ServiceErrors
+use Rattle.service.specs.declared.storage.Sizes.{Sizes}
+use Rattle.service.specs.Input.{TakesUpTo, Fills, day_room, opened_day, ServesInput, ServesDay, PrintsInput}
 use Rattle.service.specs.Feeds.{line_for, PrintsLine, ServesNext, Unreadable, ServesFirst, unreadable, PrintsFeed}
 
 -- a service is the same after two steps
@@ -65,3 +68,24 @@ module _ {feed : List ℕ} {room : Room} {m between : Memory TrunkValue TrunkLim
     next = inl next;
     unwritten = subst (PrintsLine line printed is) (e ∙ ap Err (sym fails)) p;
   }
+
+-- an input that was served is printed, whatever the answer is: serving takes no memory
+prints_input : (s : Sizes) (was is before after : Option (List ℕ)) (answer : Result (Unit {0}) ServiceError) → ServesInput s was is before after answer → PrintsInput s was is before after answer
+prints_input s was is before after (Ok done) served = served
+prints_input s was is before after (Err (ServiceErrors.Refused why)) served = served
+prints_input s was is before after (Err (ServiceErrors.Io error)) served = tt
+prints_input s was is before after (Err ServiceErrors.OutOfMemory) (feed, taken, broken) = absurd broken.1.unwritten
+
+-- the same of a feed that was read into a buffer and served over memory just opened
+pub prints_day : (s : Sizes) (was is before after : Option (List ℕ)) (buffer : List ℕ) (n : ℕ) (room : Room) (m : Memory TrunkValue TrunkLimits) (answer : Result (Unit {0}) ServiceError) →
+    Fills was is buffer n → length buffer ≡ s.input → room ≡ day_room s → m ≡ opened_day s → ServesDay (take (n - 0) buffer) room m before after answer →
+    PrintsInput s was is before after answer
+prints_day s was is before after buffer n room m answer filled fits lends opened served =
+    let same : take (n - 0) buffer ≡ take n buffer = ap (λ (i : ℕ). take i buffer) (omega arith) in
+    prints_input s was is before after answer (
+      take n buffer,
+      subst (λ (k : ℕ). TakesUpTo k was is (take n buffer)) fits filled.1,
+      subst (λ (m : Memory TrunkValue TrunkLimits). ServesDay (take n buffer) (day_room s) m before after answer) opened
+          (subst (λ (room : Room). ServesDay (take n buffer) room m before after answer) lends
+          (subst (λ (feed : List ℕ). ServesDay feed room m before after answer) same served)),
+    )
