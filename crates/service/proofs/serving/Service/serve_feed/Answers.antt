@@ -1,4 +1,4 @@
-use Rattle.std.proofs.Common.{◌≡◌, ◌+◌, [], ◌∷◌, Ok, Err, length, inl, inr, refl, sym, ap, ◌∙◌, arith, rules}
+use Rattle.std.proofs.Common.{◌≡◌, ◌+◌, [], ◌∷◌, Ok, Err, length, inl, inr, refl, sym, ap, ◌∙◌, arith}
 use Rattle.std.specs.Iterator.Adapters.{zip_first, zip_second}
 use Rattle.std.proofs.KnownBytes.{Appends-nil, Appends-trans}
 use Rattle.records.specs.Records.{records_from, next_place}
@@ -63,6 +63,3 @@ returns-clause-printed g c =
     let (number, start, lines, count, left, first, wrote) = c.loop-number.invariant.served in
     let ended : unread (zip_second c.loop-number.number-iterator) ≡ [] = elim c.in-None.ensures.steps [ inl r ↦ absurd (omega (arith, r.1.0)) | inr r ↦ r.1.0 ] in
     (lines, at_its_end first (is_end c.args.feed.now start (sym left ∙ ended)), wrote)
-
-pub returns-clause-same : goal.returns-clause-same
-returns-clause-same g c = search rules

@@ -1,4 +1,4 @@
-use Rattle.std.proofs.Common.{subst, List, ℕ, rules}
+use Rattle.std.proofs.Common.{subst, List, ℕ}
 use Rattle.service.specs.Feeds.{PrintsLine}
 use Rattle.service.proofs.serving.Service.serve_record.Goals as goal
 
@@ -10,6 +10,3 @@ returns-clause-printed g c = (
       (cc)
       c.print_line.ensures,
 )
-
-pub returns-clause-same : goal.returns-clause-same
-returns-clause-same g c = search rules

@@ -1,5 +1,0 @@
-use Rattle.std.proofs.Common.{rules}
-use Rattle.service.proofs.ServiceErrorFromIoError.from.Goals as goal
-
-pub returns : goal.returns
-returns c = search rules
