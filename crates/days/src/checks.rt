@@ -1,20 +1,19 @@
 //! What the tests share: a day's memory, its calls, and what they answer.
-use crate::tables::{Numbers, Turn, Want, held, link};
+use crate::tables::{Joined, Numbers, Reading, Step, Three, Turn, held, link};
 use cards::{Answer, Call, Card, Reply};
 use catalogue::{Catalogue, Link, Links};
-use labels::Slot;
-use measure::Measure;
-use measure::pair::{Trunk, TrunkLimit};
-use quotes::{QuoteBook, discard, perform, quote, read, recheck};
+use labels::{Label, Slot, State};
+use measure::pair::Trunk;
+use measure::{Measure, Ratio};
+use quotes::{QuoteBook, change, discard, offer, perform, quote, read, recheck, withdraw};
 use report::Mark;
-use routing::free_slot;
+use routing::{Ask, free_slot};
 use std::alloc::{AllocError, Allocator};
 use std::fmt::Debug;
 use std::process::Abort;
 
-pub(crate) type TrunkDay<'a> = Day<'a, Trunk, TrunkLimit>;
-
-// How many sites a day has, how many places for links and cards, and how much is lent to its calls.
+// How many sites a day has, how many places for links and cards, and how much is lent to its calls. The quote book is made for the same sites,
+// with all row numbers, or for so many other sites and numbers.
 #[derive(Clone, Copy)]
 pub(crate) struct Sizes {
     pub sites: usize,
@@ -22,12 +21,13 @@ pub(crate) struct Sizes {
     pub cards: usize,
     pub labels: usize,
     pub reply: usize,
+    pub book: Option<(usize, usize)>,
 }
 
 // The memory that a day lends: its rows have a number for each card and site.
 #[derive(Drop)]
 pub(crate) struct Memory<M, L, A: Allocator> {
-    pub sites: usize,
+    pub sizes: Sizes,
     pub places: Vec<Option<Link<M>>, A>,
     pub cards: Vec<Option<Card<M, L>>, A>,
     pub rows: Vec<u16, A>,
@@ -44,147 +44,276 @@ pub(crate) struct Day<'a, M, L> {
     pub reply: &'a mut [u16],
 }
 
+// What came is what was wanted. The assertion is proved here once, for values of any type.
+pub(crate) fn check_same<T: Copy + PartialEq + Debug>(rt: &impl Abort, came: T, want: T) {
+    assert_eq!(rt; came, want);
+}
+
+// The same, at this place of a table, which is printed beside both where they differ.
+pub(crate) fn check_at<A, T>(rt: &impl Abort, at: A, came: T, want: T)
+where
+    A: Copy + PartialEq + Debug,
+    T: Copy + PartialEq + Debug,
+{
+    check_same(rt, (at, came), (at, want));
+}
+
+// The row numbers, or those of the reply, are these.
+pub(crate) fn check_numbers(rt: &impl Abort, came: &[u16], want: &[u16]) {
+    check_same(rt, came, want);
+}
+
+// So many of the value.
+fn filled<T: Copy, R: Alloc>(rt: &R, value: T, length: usize) -> Result<Vec<T, R::A>, AllocError> {
+    vec![in rt.alloc(); value; length]
+}
+
 // Memory of these sizes: each row number is 7, each of the reply 9, and each label free.
 pub(crate) fn lend<M: Measure, R: Alloc>(
     rt: &R,
     sizes: Sizes,
 ) -> Result<Memory<M, M::Limit, R::A>, AllocError> {
     Ok(Memory {
-        sites: sizes.sites,
-        places: vec![in rt.alloc(); None; sizes.places]?,
-        cards: vec![in rt.alloc(); None; sizes.cards]?,
-        rows: vec![in rt.alloc(); 7; sizes.cards.saturating_mul(sizes.sites)]?,
-        labels: vec![in rt.alloc(); free_slot::<M>(); sizes.labels]?,
-        reply: vec![in rt.alloc(); 9; sizes.reply]?,
+        sizes,
+        places: filled(rt, None, sizes.places)?,
+        cards: filled(rt, None, sizes.cards)?,
+        rows: filled(rt, 7, sizes.cards.saturating_mul(sizes.sites))?,
+        labels: filled(rt, free_slot::<M>(), sizes.labels)?,
+        reply: filled(rt, 9, sizes.reply)?,
     })
 }
 
+// A quote book for so many sites. Its contract is met here alone, so that no test has to carry it; so are those of the calls below.
+pub(crate) fn open_book<'a, M: Measure>(
+    cards: &'a mut [Option<Card<M, M::Limit>>],
+    rows: &'a mut [u16],
+    sites: usize,
+) -> QuoteBook<'a, M, M::Limit> {
+    QuoteBook::open(cards, rows, sites)
+}
+
 impl<M: Measure, A: Allocator> Memory<M, M::Limit, A> {
-    // A day whose quote book is made for so many sites, with the first of the row numbers.
-    pub(crate) fn open_for(&mut self, sites: usize, numbers: usize) -> Day<'_, M, M::Limit> {
-        let own_sites = self.sites;
-        let numbers = numbers.min(self.rows.len());
+    // A day in this memory.
+    pub(crate) fn open(&mut self) -> Day<'_, M, M::Limit> {
+        let length = self.rows.len();
+        let own_sites = self.sizes.sites;
+        let (sites, numbers) = self.sizes.book.unwrap_or((own_sites, length));
+        let rows = &mut self.rows[0..numbers.min(length)];
         Day {
             catalogue: Catalogue::open(&mut self.places, own_sites),
-            book: QuoteBook::open(&mut self.cards, &mut self.rows[0..numbers], sites),
+            book: open_book(&mut self.cards, rows, sites),
             labels: &mut self.labels,
             reply: &mut self.reply,
         }
     }
+}
 
-    // A day whose quote book is made for the catalogue.
-    pub(crate) fn open(&mut self) -> Day<'_, M, M::Limit> {
-        let (sites, numbers) = (self.sites, self.rows.len());
-        self.open_for(sites, numbers)
+// What is told of a card after a recheck with these labels.
+fn rechecked<M: Measure>(
+    network: &Catalogue<'_, M>,
+    book: &mut QuoteBook<'_, M, M::Limit>,
+    labels: &mut [Slot<M>],
+    card: usize,
+    k: usize,
+) -> Reply<M> {
+    let answer = recheck(network, book, labels, card, k)?;
+    held(Mark::Standing, answer)
+}
+
+// What is told of a card when its row is read into these numbers.
+fn read_into<M: Measure>(
+    book: &QuoteBook<'_, M, M::Limit>,
+    card: usize,
+    numbers: &mut [u16],
+    start: usize,
+) -> Reply<M> {
+    let (mark, answer) = read(book, card, numbers, start)?;
+    held(mark, answer)
+}
+
+impl<M: Measure> Day<'_, M, M::Limit> {
+    // What the call answers by way of all calls.
+    fn answer(&mut self, call: Call<M, M::Limit>) -> Reply<M> {
+        let (network, book) = (&mut self.catalogue, &mut self.book);
+        perform(network, book, self.labels, self.reply, call)
+    }
+
+    // What an offer counts, by its own function.
+    fn offered(&mut self, place: usize, link: Link<M>) -> Reply<M> {
+        let counted = offer(&mut self.catalogue, &mut self.book, place, link)?;
+        Ok(Answer::Counted(counted))
+    }
+
+    // What a change counts.
+    fn changed(&mut self, place: usize, value: M) -> Reply<M> {
+        let counted = change(&mut self.catalogue, &mut self.book, place, value)?;
+        Ok(Answer::Counted(counted))
+    }
+
+    // What a withdrawal counts.
+    fn withdrawn(&mut self, place: usize) -> Reply<M> {
+        let counted = withdraw(&mut self.catalogue, &mut self.book, place)?;
+        Ok(Answer::Counted(counted))
+    }
+
+    // A discard counts nothing.
+    fn discarded(&mut self, card: usize) -> Reply<M> {
+        discard(&mut self.book, card)?;
+        Ok(Answer::Counted(0))
+    }
+
+    // What is told of a card that is quoted.
+    fn quoted(&mut self, card: usize, ask: Ask<M::Limit>, k: usize) -> Reply<M> {
+        let answer = quote(&self.catalogue, &mut self.book, self.labels, card, ask, k)?;
+        held(Mark::Standing, answer)
+    }
+
+    // What the call answers by its own function.
+    fn answer_itself(&mut self, call: Call<M, M::Limit>) -> Reply<M> {
+        match call {
+            Call::Offer { place, link } => self.offered(place, link),
+            Call::Change { place, value } => self.changed(place, value),
+            Call::Withdraw { place } => self.withdrawn(place),
+            Call::Quote { card, ask, k } => self.quoted(card, ask, k),
+            Call::Recheck { card, k } => {
+                rechecked(&self.catalogue, &mut self.book, self.labels, card, k)
+            }
+            Call::Discard { card } => self.discarded(card),
+            Call::Read { card, start } => read_into(&self.book, card, self.reply, start),
+        }
+    }
+}
+
+// The link of these numbers, if there are any.
+fn linked<M: Measure, N: Numbers<M>>(joined: Option<&Joined<N>>) -> Option<Link<M>> {
+    let &(start, end, value) = joined?;
+    Some(link(start, end, value))
+}
+
+// A place as no call leaves it, with notes that lead nowhere.
+fn used_slot<M: Measure>(value: M) -> Slot<M> {
+    Slot {
+        label: Label {
+            state: State::Settled,
+            value,
+            previous: 5,
+            link: 6,
+        },
+        share: Ratio { top: 9, bottom: 0 },
+        winner: 60000,
+        best: 60001,
+        used: 60002,
+        first: 60003,
+        next: 60004,
+    }
+}
+
+// Each of the labels is such a place from then on.
+fn fill<M: Measure>(labels: &mut [Slot<M>], value: M) {
+    for slot in labels.iter_mut() {
+        *slot = used_slot(value);
+    }
+}
+
+// Each of them still is. They are lent as to `fill`: the borrow checker does not cover a mutable slice in a field that is lent again as a shared one.
+fn check_filled<M: Measure + PartialEq + Debug>(rt: &impl Abort, labels: &mut [Slot<M>], value: M) {
+    for &slot in labels.iter() {
+        check_same(rt, slot, used_slot(value));
+    }
+}
+
+// Each of them is free.
+fn check_free<M: Measure>(rt: &impl Abort, labels: &mut [Slot<M>]) {
+    for &slot in labels.iter() {
+        check_same(rt, slot.label.state, State::Free);
     }
 }
 
 impl<M: Measure + PartialEq + Debug> Day<'_, M, M::Limit> {
     // The calls, one after the other, answer what stands beside them.
-    pub(crate) fn check<N: Numbers<M>>(&mut self, rt: &impl Abort, turns: &[Turn<N>]) {
+    fn check<N: Numbers<M>>(&mut self, rt: &impl Abort, turns: &[Turn<N>]) {
         for (turn, &(asked, want)) in turns.iter().enumerate() {
-            let reply = perform(
-                &mut self.catalogue,
-                &mut self.book,
-                self.labels,
-                self.reply,
-                asked.call(),
-            );
-            assert_eq!(rt; reply, want.reply(), "at {turn}");
+            check_at(rt, turn, self.answer(asked.call()), want.reply());
         }
     }
 
-    // The call by its own function, not by way of all calls.
-    fn call_itself(&mut self, call: Call<M, M::Limit>) -> Reply<M> {
-        let (network, book) = (&mut self.catalogue, &mut self.book);
-        let counted = match call {
-            Call::Offer { place, link } => quotes::offer(network, book, place, link)?,
-            Call::Change { place, value } => quotes::change(network, book, place, value)?,
-            Call::Withdraw { place } => quotes::withdraw(network, book, place)?,
-            Call::Quote { card, ask, k } => {
-                let answer = quote(network, book, self.labels, card, ask, k)?;
-                return held(Mark::Standing, answer);
-            }
-            Call::Recheck { card, k } => {
-                let answer = recheck(network, book, self.labels, card, k)?;
-                return held(Mark::Standing, answer);
-            }
-            Call::Discard { card } => {
-                discard(book, card)?;
-                0
-            }
-            Call::Read { card, start } => {
-                let (mark, answer) = read(book, card, self.reply, start)?;
-                return held(mark, answer);
-            }
-        };
-        Ok(Answer::Counted(counted))
-    }
-
     // The same calls, each by its own function.
-    pub(crate) fn check_by_themselves<N: Numbers<M>>(
-        &mut self,
-        rt: &impl Abort,
-        turns: &[Turn<N>],
-    ) {
+    fn check_by_themselves<N: Numbers<M>>(&mut self, rt: &impl Abort, turns: &[Turn<N>]) {
         for (turn, &(asked, want)) in turns.iter().enumerate() {
-            let reply = self.call_itself(asked.call());
-            assert_eq!(rt; reply, want.reply(), "at {turn}");
+            check_at(rt, turn, self.answer_itself(asked.call()), want.reply());
         }
     }
 
     // The first places hold links with these ends and values, and the others none.
-    pub(crate) fn check_links<N: Numbers<M>>(&self, rt: &impl Abort, links: &[(u16, u16, N)]) {
+    fn check_links<N: Numbers<M>>(&self, rt: &impl Abort, links: &[Joined<N>]) {
         for place in 0..self.catalogue.places() {
-            let want = links
-                .get(place)
-                .map(|&(start, end, value)| link(start, end, value));
-            assert_eq!(rt; self.catalogue.link(place), want, "at {place}");
+            let want = linked(links.get(place));
+            check_at(rt, place, self.catalogue.link(place), want);
         }
     }
 
-    // A recheck of the card with these labels answers this.
-    pub(crate) fn check_recheck<N: Numbers<M>>(
-        &mut self,
-        rt: &impl Abort,
-        labels: &mut [Slot<M>],
-        card: usize,
-        k: usize,
-        want: Want<N>,
-    ) {
-        let reply = match recheck(&self.catalogue, &mut self.book, labels, card, k) {
-            Ok(answer) => held(Mark::Standing, answer),
-            Err(why) => Err(why),
-        };
-        assert_eq!(rt; reply, want.reply(), "of {card} with {k}");
-    }
-
     // A reading of the card into five numbers from this start gives this reply, and leaves these numbers.
-    pub(crate) fn check_reading<N: Numbers<M>>(
+    fn check_reading<N: Numbers<M>>(
         &self,
         rt: &impl Abort,
-        card: usize,
-        start: usize,
-        want: Want<N>,
-        numbers: [u16; 5],
+        (card, start, want, numbers): Reading<N>,
     ) {
         let mut lent = [9; 5];
-        let reply = match read(&self.book, card, &mut lent, start) {
-            Ok((mark, answer)) => held(mark, answer),
-            Err(why) => Err(why),
-        };
-        assert_eq!(rt; reply, want.reply(), "from {start}");
-        assert_eq!(rt; lent, numbers, "from {start}");
+        let reply = read_into(&self.book, card, &mut lent, start);
+        check_at(rt, start, reply, want.reply());
+        check_at(rt, start, lent, numbers);
+    }
+
+    // The same of each of the readings.
+    fn check_readings<N: Numbers<M>>(&self, rt: &impl Abort, readings: &[Reading<N>]) {
+        for &reading in readings {
+            self.check_reading(rt, reading);
+        }
+    }
+
+    // The day goes through the step.
+    fn check_step<N: Numbers<M>>(&mut self, rt: &impl Abort, step: &Step<'_, N>) {
+        match *step {
+            Step::Calls(turns) => self.check(rt, turns),
+            Step::Themselves(turns) => self.check_by_themselves(rt, turns),
+            Step::Links(links) => self.check_links(rt, links),
+            Step::Readings(readings) => self.check_readings(rt, readings),
+            Step::Reply(numbers) => check_numbers(rt, self.reply, numbers),
+            Step::Fill(value) => fill(self.labels, value.value()),
+            Step::Filled(value) => check_filled(rt, self.labels, value.value()),
+            Step::Free => check_free(rt, self.labels),
+        }
+    }
+
+    // The day goes through the steps, one after the other.
+    fn check_steps<N: Numbers<M>>(&mut self, rt: &impl Abort, steps: &[Step<'_, N>]) {
+        for step in steps {
+            self.check_step(rt, step);
+        }
     }
 }
 
-// The memory of a day of these sizes after the calls, which answer what stands beside them.
-pub(crate) fn memory_after<M: Measure + PartialEq + Debug, N: Numbers<M>, R: Abort + Alloc>(
+// A day of these sizes goes through the steps, and leaves these row numbers, if any are given.
+pub(crate) fn check_day<M: Measure + PartialEq + Debug, N: Numbers<M>, R: Abort + Alloc>(
     rt: &R,
     sizes: Sizes,
-    turns: &[Turn<N>],
-) -> Result<Memory<M, M::Limit, R::A>, AllocError> {
-    let mut memory = lend(rt, sizes)?;
-    memory.open().check(rt, turns);
-    Ok(memory)
+    steps: &[Step<'_, N>],
+    rows: Option<&[u16]>,
+) -> Result<(), AllocError> {
+    let mut memory = lend::<M, R>(rt, sizes)?;
+    memory.open().check_steps(rt, steps);
+    if let Some(rows) = rows {
+        check_numbers(rt, &memory.rows, rows);
+    }
+    Ok(())
+}
+
+// The same on the trunk kind.
+pub(crate) fn check_trunk_day(
+    rt: &(impl Abort + Alloc),
+    sizes: Sizes,
+    steps: &[Step<'_, Three>],
+    rows: Option<&[u16]>,
+) -> Result<(), AllocError> {
+    check_day::<Trunk, _, _>(rt, sizes, steps, rows)
 }

@@ -1,6 +1,7 @@
 //! Which cards fall into doubt by news of a link: each line of the rule, on both its sides.
 use crate::checks::*;
 use crate::tables::Asked::*;
+use crate::tables::Step::Calls;
 use crate::tables::Want::*;
 use crate::tables::{Asked, Three, Turn};
 use report::Mark::{self, Doubtful, Standing};
@@ -13,6 +14,7 @@ const SIZES: Sizes = Sizes {
     cards: 4,
     labels: 10,
     reply: 2,
+    book: None,
 };
 
 // Three cards under (10, 10, 4). Card 0 from 0 to 3 has the route by 1 and 2, (6, 6, 1), since by 0 and 3 it is (9, 9, 1).
@@ -39,16 +41,13 @@ fn check_doubt(
     turns: &[Turn<Three>],
     marks: [Mark; 3],
 ) -> Result<(), Fail> {
-    let mut memory = lend(rt, SIZES)?;
-    let mut day = memory.open();
     let readings = [
         (Read(0, 0), Best(marks[0], 2, (6, 6, 1), 6, 10)),
         (Read(1, 0), NoRoute(marks[1])),
         (Read(2, 0), Best(marks[2], 1, (8, 1, 1), 8, 10)),
     ];
-    day.check(rt, &SETTING);
-    day.check(rt, turns);
-    day.check(rt, &readings);
+    let steps = [Calls(&SETTING), Calls(turns), Calls(&readings)];
+    check_trunk_day(rt, SIZES, &steps, None)?;
     Ok(())
 }
 

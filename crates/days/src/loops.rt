@@ -1,6 +1,7 @@
 //! The second product, the loop catalogue: delay alone is weighed.
 use crate::checks::*;
 use crate::tables::Asked::*;
+use crate::tables::Step::Calls;
 use crate::tables::Turn;
 use crate::tables::Want::*;
 use measure::pair::Loop;
@@ -14,6 +15,7 @@ const SIZES: Sizes = Sizes {
     cards: 2,
     labels: 3,
     reply: 3,
+    book: None,
 };
 
 // By 1 and 2 the delay is 9 and then 11; by 3 it is 10.
@@ -35,8 +37,8 @@ const GROWING: [Turn<u32>; 13] = [
 
 #[test]
 fn a_delay_grows(rt: HostRuntime) -> Result<(), Fail> {
-    let memory = memory_after::<Loop, _, _>(&rt, SIZES, &GROWING)?;
-    assert_eq!(rt; memory.rows.as_slice(), [3, 0, 0, 3, 0, 0].as_slice());
+    let rows = [3, 0, 0, 3, 0, 0];
+    check_day::<Loop, _, _>(&rt, SIZES, &[Calls(&GROWING)], Some(&rows))?;
     Ok(())
 }
 
@@ -63,7 +65,7 @@ const ENDS: [Turn<u32>; 9] = [
 
 #[test]
 fn limits_and_sums_at_their_ends(rt: HostRuntime) -> Result<(), Fail> {
-    let memory = memory_after::<Loop, _, _>(&rt, SIZES, &ENDS)?;
-    assert_eq!(rt; memory.rows.as_slice(), [0, 1, 0, 1, 0, 0].as_slice());
+    let rows = [0, 1, 0, 1, 0, 0];
+    check_day::<Loop, _, _>(&rt, SIZES, &[Calls(&ENDS)], Some(&rows))?;
     Ok(())
 }

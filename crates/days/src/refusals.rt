@@ -1,9 +1,9 @@
 //! Calls that are refused: of several causes the topmost is told, and nothing is changed by them.
 use crate::checks::*;
 use crate::tables::Asked::*;
+use crate::tables::Step::{Calls, Links, Reply};
 use crate::tables::Want::*;
-use crate::tables::{Asked, Three, Turn};
-use measure::pair::Trunk;
+use crate::tables::{Asked, Joined, Three, Turn};
 use quotes::check_book_size;
 use report::Mark::{Doubtful, Standing};
 use report::Refusal::{self, *};
@@ -16,6 +16,7 @@ const SIZES: Sizes = Sizes {
     cards: 3,
     labels: 16,
     reply: 4,
+    book: None,
 };
 
 // A limit, and one that is not admitted.
@@ -50,27 +51,26 @@ const READINGS: [Turn<Three>; 3] = [
     (Read(2, 0), Refused(CardEmpty)),
 ];
 
-const LINKS: [(u16, u16, Three); 3] = [(0, 1, (2, 2, 1)), (1, 3, (2, 2, 1)), (0, 2, (6, 5, 1))];
+// The links of the setting, and its rows.
+const LINKS: [Joined<Three>; 3] = [(0, 1, (2, 2, 1)), (1, 3, (2, 2, 1)), (0, 2, (6, 5, 1))];
 
-// The links and cards are those of the setting.
-fn check_setting(rt: &impl Abort, day: &mut TrunkDay<'_>) {
-    day.check_links(rt, &LINKS);
-    day.check(rt, &READINGS);
-}
+const ROWS: [u16; 12] = [0, 1, 0, 0, 2, 0, 0, 0, 7, 7, 7, 7];
 
-// Each call is refused with what stands beside it, and leaves links, cards, rows and reply as they were.
+// Each call, in a day of its own after the setting, is refused with what stands beside it, and leaves links, cards, rows and reply as they were.
 fn check_refused(rt: &(impl Abort + Alloc), calls: &[(Asked<Three>, Refusal)]) -> Result<(), Fail> {
-    let mut memory = lend(rt, SIZES)?;
-    let mut day = memory.open();
-    day.check(rt, &SETTING);
-    check_setting(rt, &mut day);
     for &(asked, why) in calls {
-        day.check(rt, &[(asked, Refused(why))]);
-        check_setting(rt, &mut day);
+        let refused = [(asked, Refused(why))];
+        let steps = [
+            Calls(&SETTING),
+            Links(&LINKS),
+            Calls(&READINGS),
+            Calls(&refused),
+            Links(&LINKS),
+            Calls(&READINGS),
+            Reply(&[2, 1, 9, 9]),
+        ];
+        check_trunk_day(rt, SIZES, &steps, Some(&ROWS))?;
     }
-    let rows = [0, 1, 0, 0, 2, 0, 0, 0, 7, 7, 7, 7];
-    assert_eq!(rt; memory.reply.as_slice(), [2, 1, 9, 9].as_slice());
-    assert_eq!(rt; memory.rows.as_slice(), rows.as_slice());
     Ok(())
 }
 
@@ -153,36 +153,38 @@ const OTHER_SITES: [(usize, usize); 6] = [(3, 9), (3, 12), (5, 12), (4, 11), (4,
 
 #[test]
 fn quote_books_for_other_sites(rt: HostRuntime) -> Result<(), Fail> {
-    for (sites, numbers) in OTHER_SITES {
-        let mut memory = lend(&rt, Sizes { places: 1, ..SIZES })?;
-        memory.open_for(sites, numbers).check(&rt, &MISFITS);
-        assert_eq!(rt; memory.rows.as_slice(), [7; 12].as_slice());
+    for book in OTHER_SITES {
+        let sizes = Sizes {
+            places: 1,
+            book: Some(book),
+            ..SIZES
+        };
+        check_trunk_day(&rt, sizes, &[Calls(&MISFITS)], Some(&[7; 12]))?;
     }
     Ok(())
 }
 
-// Sites, cards and row numbers, and whether a quote book may have them.
-const BOOK_SIZES: [(usize, usize, usize, bool); 9] = [
-    (1, 1, 1, true),
-    (4, 3, 12, true),
-    (256, 256, 65536, true),
-    (1, 256, 256, true),
-    (4, 0, 0, false),
-    (4, 257, 1028, false),
-    (4, 3, 11, false),
-    (4, 3, 13, false),
-    (usize::MAX, 2, 18446744073709551614, false),
+// What is answered for a quote book that may not be.
+const MISFIT: Result<(), Refusal> = Err(QuoteBookSize);
+
+// Sites, cards and row numbers, and what is answered for a quote book that has them.
+const BOOK_SIZES: [(usize, usize, usize, Result<(), Refusal>); 9] = [
+    (1, 1, 1, Ok(())),
+    (4, 3, 12, Ok(())),
+    (256, 256, 65536, Ok(())),
+    (1, 256, 256, Ok(())),
+    (4, 0, 0, MISFIT),
+    (4, 257, 1028, MISFIT),
+    (4, 3, 11, MISFIT),
+    (4, 3, 13, MISFIT),
+    (usize::MAX, 2, 18446744073709551614, MISFIT),
 ];
 
 #[test]
 fn quote_book_sizes(rt: HostRuntime) {
-    for (sites, cards, rows, fits) in BOOK_SIZES {
-        let want = if fits { Ok(()) } else { Err(QuoteBookSize) };
-        assert_eq!(rt;
-            check_book_size(sites, cards, rows),
-            want,
-            "of {sites}, {cards} and {rows}"
-        );
+    for (sites, cards, rows, want) in BOOK_SIZES {
+        let came = check_book_size(sites, cards, rows);
+        check_at(&rt, (sites, cards, rows), came, want);
     }
 }
 
@@ -204,6 +206,6 @@ const AT_THEIR_LAST: [Turn<Three>; 7] = [
 
 #[test]
 fn numbers_at_their_last(rt: HostRuntime) -> Result<(), Fail> {
-    memory_after::<Trunk, _, _>(&rt, SIZES, &AT_THEIR_LAST)?;
+    check_trunk_day(&rt, SIZES, &[Calls(&AT_THEIR_LAST)], None)?;
     Ok(())
 }

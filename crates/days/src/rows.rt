@@ -1,13 +1,12 @@
 //! What cards, their rows, replies and the workspace hold after the calls on cards.
 use crate::checks::*;
 use crate::tables::Asked::*;
+use crate::tables::Step::*;
 use crate::tables::Want::*;
-use crate::tables::{Three, Turn, Want, ask};
+use crate::tables::{Reading, Three, Turn, Want, ask};
 use cards::Card;
-use labels::{Label, Slot, State};
-use measure::Ratio;
-use measure::pair::{Trunk, TrunkLimit, trunk_value};
-use quotes::QuoteBook;
+use measure::Measure;
+use measure::pair::Trunk;
 use report::Mark::{Doubtful, Standing};
 use report::Refusal;
 use std::process::Abort;
@@ -19,41 +18,29 @@ const SIZES: Sizes = Sizes {
     cards: 2,
     labels: 8,
     reply: 4,
+    book: None,
 };
 
 const LIMIT: Three = (10, 10, 4);
-
-// A place as no call leaves it, with notes that lead nowhere.
-fn used_slot() -> Slot<Trunk> {
-    Slot {
-        label: Label {
-            state: State::Settled,
-            value: trunk_value(1, 2, 3),
-            previous: 5,
-            link: 6,
-        },
-        share: Ratio { top: 9, bottom: 0 },
-        winner: 60000,
-        best: 60001,
-        used: 60002,
-        first: 60003,
-        next: 60004,
-    }
-}
-
-fn check_used(rt: &impl Abort, labels: &[Slot<Trunk>]) {
-    assert!(rt; labels.iter().all(|slot| *slot == used_slot()));
-}
-
-fn check_free(rt: &impl Abort, labels: &[Slot<Trunk>]) {
-    assert!(rt; labels.iter().all(|slot| slot.label.state == State::Free));
-}
 
 // Site 0 is joined to 1 by link 1, and 1 to 3 by link 2.
 const TWO_LINKS: [Turn<Three>; 2] = [
     (Offer(1, 0, 1, (5, 5, 1)), Counted(0)),
     (Offer(2, 1, 3, (1, 1, 1)), Counted(0)),
 ];
+
+// A quote book over filled cards empties them, and leaves the rows.
+fn check_opening<M: Measure>(
+    rt: &impl Abort,
+    cards: &mut [Option<Card<M, M::Limit>>],
+    rows: &mut [u16],
+) {
+    let _book = open_book(cards, rows, 4);
+    for card in cards.iter() {
+        check_same(rt, card.is_none(), true);
+    }
+    check_numbers(rt, rows, &[7; 8]);
+}
 
 #[test]
 fn opening_empties_cards_and_leaves_rows(rt: HostRuntime) {
@@ -62,12 +49,7 @@ fn opening_empties_cards_and_leaves_rows(rt: HostRuntime) {
         answer: None,
         mark: Standing,
     };
-    let mut cards = [Some(filled); 2];
-    let mut rows = [7; 8];
-    let _book = QuoteBook::<Trunk, TrunkLimit>::open(&mut cards, &mut rows, 4);
-    assert!(rt; cards[0].is_none());
-    assert!(rt; cards[1].is_none());
-    assert_eq!(rt; rows, [7; 8]);
+    check_opening::<Trunk>(&rt, &mut [Some(filled); 2], &mut [7; 8]);
 }
 
 // The rows of two cards after the first calls.
@@ -76,11 +58,8 @@ fn check_rows(
     turns: &[Turn<Three>],
     want: [u16; 8],
 ) -> Result<(), Fail> {
-    let mut memory = lend(rt, SIZES)?;
-    let mut day = memory.open();
-    day.check(rt, &TWO_LINKS);
-    day.check(rt, turns);
-    assert_eq!(rt; memory.rows.as_slice(), want.as_slice());
+    let steps = [Calls(&TWO_LINKS), Calls(turns)];
+    check_trunk_day(rt, SIZES, &steps, Some(&want))?;
     Ok(())
 }
 
@@ -139,8 +118,8 @@ const TWO_CARDS: [Turn<Three>; 2] = [
     (Quote(1, 3, 0, LIMIT, 2), NoRoute(Standing)),
 ];
 
-// A card, the start of a reading, its reply and the numbers that it leaves.
-const READINGS: [(usize, usize, Want<Three>, [u16; 5]); 10] = [
+// A reading that does not fit leaves the numbers as they were.
+const READINGS: [Reading<Three>; 10] = [
     (0, 0, Best(Standing, 2, (6, 6, 1), 6, 10), [1, 2, 9, 9, 9]),
     (0, 2, Best(Standing, 2, (6, 6, 1), 6, 10), [9, 9, 1, 2, 9]),
     (0, 3, Best(Standing, 2, (6, 6, 1), 6, 10), [9, 9, 9, 1, 2]),
@@ -155,13 +134,8 @@ const READINGS: [(usize, usize, Want<Three>, [u16; 5]); 10] = [
 
 #[test]
 fn readings_at_each_start(rt: HostRuntime) -> Result<(), Fail> {
-    let mut memory = lend::<Trunk, _>(&rt, SIZES)?;
-    let mut day = memory.open();
-    day.check(&rt, &TWO_LINKS);
-    day.check(&rt, &TWO_CARDS);
-    for (card, start, want, numbers) in READINGS {
-        day.check_reading(&rt, card, start, want, numbers);
-    }
+    let steps = [Calls(&TWO_LINKS), Calls(&TWO_CARDS), Readings(&READINGS)];
+    check_trunk_day(&rt, SIZES, &steps, None)?;
     Ok(())
 }
 
@@ -169,29 +143,41 @@ const STANDING: Want<Three> = Best(Standing, 2, (6, 6, 1), 6, 10);
 
 const MISFIT: Want<Three> = Refused(Refusal::WorkspaceSize);
 
-const WITHDRAWN: [Turn<Three>; 1] = [(Withdraw(1), Counted(1))];
-
+// What is answered after the withdrawal.
 const NONE: Want<Three> = NoRoute(Standing);
 
+const QUOTED: [Turn<Three>; 1] = [(Quote(0, 0, 3, LIMIT, 2), STANDING)];
+
+// The rechecks of card 0 while it stands, after a withdrawal with too few labels a site, and then with enough of them.
+const STANDING_RECHECKS: [Turn<Three>; 2] = [(Recheck(0, 2), STANDING), (Recheck(0, 1), MISFIT)];
+
+const WITHDRAWN: [Turn<Three>; 1] = [(Withdraw(1), Counted(1))];
+
+const DOUBTFUL_RECHECKS: [Turn<Three>; 1] = [(Recheck(0, 1), MISFIT)];
+
+const LAST_RECHECKS: [Turn<Three>; 1] = [(Recheck(0, 2), NONE)];
+
 const READ: [Turn<Three>; 1] = [(Read(0, 0), NONE)];
+
+// What the places of the workspace hold.
+const USED: Three = (1, 2, 3);
 
 // A recheck of a standing card leaves the workspace as it was, and so does one that is refused; one of a doubtful card frees it.
 #[test]
 fn rechecks_and_the_workspace(rt: HostRuntime) -> Result<(), Fail> {
-    let mut memory = lend(&rt, SIZES)?;
-    let mut lent = [used_slot(); 8];
-    let mut day = memory.open();
-    day.check(&rt, &TWO_LINKS);
-    day.check(&rt, &[(Quote(0, 0, 3, LIMIT, 2), STANDING)]);
-    day.check_recheck(&rt, &mut lent, 0, 2, STANDING);
-    day.check_recheck(&rt, &mut lent, 0, 1, MISFIT);
-    day.check(&rt, &WITHDRAWN);
-    day.check_recheck(&rt, &mut lent, 0, 1, MISFIT);
-    check_used(&rt, &lent);
-    day.check_recheck(&rt, &mut lent, 0, 2, NONE);
-    check_free(&rt, &lent);
-    day.check(&rt, &READ);
-    assert_eq!(rt; memory.rows.as_slice(), [0, 0, 0, 0, 7, 7, 7, 7].as_slice());
+    let steps = [
+        Calls(&TWO_LINKS),
+        Calls(&QUOTED),
+        Fill(USED),
+        Themselves(&STANDING_RECHECKS),
+        Calls(&WITHDRAWN),
+        Themselves(&DOUBTFUL_RECHECKS),
+        Filled(USED),
+        Themselves(&LAST_RECHECKS),
+        Free,
+        Calls(&READ),
+    ];
+    check_trunk_day(&rt, SIZES, &steps, Some(&[0, 0, 0, 0, 7, 7, 7, 7]))?;
     Ok(())
 }
 
@@ -210,15 +196,19 @@ const FULL_SITE: [Turn<Three>; 6] = [
     (Read(1, 0), Refused(Refusal::CardEmpty)),
 ];
 
+// Then the card is rechecked by itself.
+const FULL_RECHECKS: [Turn<Three>; 1] = [(Recheck(0, 1), FULL)];
+
 #[test]
 fn a_full_site_leaves_card_and_row(rt: HostRuntime) -> Result<(), Fail> {
-    let mut memory = lend(&rt, Sizes { labels: 4, ..SIZES })?;
-    let mut lent = [used_slot(); 4];
-    let mut day = memory.open();
-    day.check(&rt, &TWO_LINKS);
-    day.check(&rt, &FULL_SITE);
-    day.check_recheck(&rt, &mut lent, 0, 1, FULL);
-    check_free(&rt, &lent);
-    assert_eq!(rt; memory.rows.as_slice(), [1, 2, 0, 0, 7, 7, 7, 7].as_slice());
+    let sizes = Sizes { labels: 4, ..SIZES };
+    let steps = [
+        Calls(&TWO_LINKS),
+        Calls(&FULL_SITE),
+        Fill(USED),
+        Themselves(&FULL_RECHECKS),
+        Free,
+    ];
+    check_trunk_day(&rt, sizes, &steps, Some(&[1, 2, 0, 0, 7, 7, 7, 7]))?;
     Ok(())
 }

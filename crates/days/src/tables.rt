@@ -6,6 +6,7 @@ use measure::scalar::Sum;
 use measure::{Measure, Ratio};
 use report::{Mark, Refusal};
 use routing::{Ask, Route};
+use std::alloc::AllocError;
 
 // The numbers of a value or of a limit.
 pub(crate) trait Numbers<M: Measure>: Copy {
@@ -37,6 +38,9 @@ impl Numbers<Loop> for u32 {
     }
 }
 
+// A link: its start and end, and its value.
+pub(crate) type Joined<N> = (u16, u16, N);
+
 // Each crate of tests has its own few lines such as these two.
 pub(crate) fn link<M: Measure>(start: u16, end: u16, value: impl Numbers<M>) -> Link<M> {
     Link {
@@ -59,7 +63,7 @@ pub(crate) fn ask<M: Measure>(
 }
 
 // A call: an offer has the link's place, ends and value, a quote the card, both sites, the limit and the labels of a site.
-#[derive(Clone, Copy)]
+#[derive(Copy)]
 pub(crate) enum Asked<N> {
     Offer(usize, u16, u16, N),
     Withdraw(usize),
@@ -72,12 +76,25 @@ pub(crate) enum Asked<N> {
 
 // What it answers: how many cards fall into doubt; the card's mark and its route, of so many legs, with its value and the two parts of its ratio;
 // that there is none; or why the call is refused.
-#[derive(Clone, Copy)]
+#[derive(Copy)]
 pub(crate) enum Want<N> {
     Counted(usize),
     Best(Mark, usize, N, u32, u32),
     NoRoute(Mark),
     Refused(Refusal),
+}
+
+// A clone is the copy: a derive would clone every field by itself, and have that proved.
+impl<N: Copy> Clone for Asked<N> {
+    fn clone(&self) -> Result<Self, AllocError> {
+        Ok(*self)
+    }
+}
+
+impl<N: Copy> Clone for Want<N> {
+    fn clone(&self) -> Result<Self, AllocError> {
+        Ok(*self)
+    }
 }
 
 pub(crate) type Turn<N> = (Asked<N>, Want<N>);
@@ -130,4 +147,22 @@ impl<N> Want<N> {
             Want::Refused(why) => Err(why),
         }
     }
+}
+
+// A card, the start of a reading into five numbers, its reply and the numbers that it leaves.
+pub(crate) type Reading<N> = (usize, usize, Want<N>, [u16; 5]);
+
+// What a day goes through: calls by way of all calls, or each by its own function, that answer what stands beside them; the links of the first
+// places, while the others hold none; readings; the numbers of the reply; a workspace that is filled with places as no call leaves them, which
+// have this value, is still so, or is free.
+#[derive(Drop)]
+pub(crate) enum Step<'a, N> {
+    Calls(&'a [Turn<N>]),
+    Themselves(&'a [Turn<N>]),
+    Links(&'a [Joined<N>]),
+    Readings(&'a [Reading<N>]),
+    Reply(&'a [u16]),
+    Fill(N),
+    Filled(N),
+    Free,
 }

@@ -1,9 +1,9 @@
 //! Days on the trunk kind, under (10, 10, 4).
 use crate::checks::*;
 use crate::tables::Asked::*;
+use crate::tables::Step::{Calls, Reply, Themselves};
 use crate::tables::Want::*;
 use crate::tables::{Three, Turn};
-use measure::pair::Trunk;
 use report::Mark::{Doubtful, Standing};
 use report::Refusal;
 use std::test::Fail;
@@ -14,6 +14,7 @@ const SIZES: Sizes = Sizes {
     cards: 1,
     labels: 16,
     reply: 4,
+    book: None,
 };
 
 const LIMIT: Three = (10, 10, 4);
@@ -38,8 +39,8 @@ const FALLING: [Turn<Three>; 11] = [
 
 #[test]
 fn a_delay_falls(rt: HostRuntime) -> Result<(), Fail> {
-    let memory = memory_after::<Trunk, _, _>(&rt, SIZES, &FALLING)?;
-    assert_eq!(rt; memory.reply.as_slice(), [9, 0, 2, 9].as_slice());
+    let steps = [Calls(&FALLING), Reply(&[9, 0, 2, 9])];
+    check_trunk_day(&rt, SIZES, &steps, None)?;
     Ok(())
 }
 
@@ -64,8 +65,8 @@ const CLASSES: [Turn<Three>; 12] = [
 
 #[test]
 fn the_class_counts(rt: HostRuntime) -> Result<(), Fail> {
-    let memory = memory_after::<Trunk, _, _>(&rt, SIZES, &CLASSES)?;
-    assert_eq!(rt; memory.reply.as_slice(), [9; 4].as_slice());
+    let steps = [Calls(&CLASSES), Reply(&[9; 4])];
+    check_trunk_day(&rt, SIZES, &steps, None)?;
     Ok(())
 }
 
@@ -87,9 +88,7 @@ const SEVEN_CALLS: [Turn<Three>; 9] = [
 
 #[test]
 fn each_call_by_itself(rt: HostRuntime) -> Result<(), Fail> {
-    let mut memory = lend::<Trunk, _>(&rt, SIZES)?;
-    memory.open().check_by_themselves(&rt, &SEVEN_CALLS);
-    assert_eq!(rt; memory.reply.as_slice(), [4, 2, 9, 9].as_slice());
-    assert_eq!(rt; memory.rows.as_slice(), [0; 4].as_slice());
+    let steps = [Themselves(&SEVEN_CALLS), Reply(&[4, 2, 9, 9])];
+    check_trunk_day(&rt, SIZES, &steps, Some(&[0; 4]))?;
     Ok(())
 }
