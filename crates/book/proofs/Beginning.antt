@@ -9,7 +9,8 @@ use Rattle.cards.specs.declared.Card.{Card}
 use Rattle.cards.specs.Books.{Book, book_size_answer, opened_network, opened_book}
 use Rattle.cards.specs.Runs.{memory, Happened, opened}
 use Rattle.cards.proofs.Clearing.{cleared}
-use Rattle.book.specs.Stores.{row_width, Begins}
+use Rattle.book.specs.Sizes.{row_width}
+use Rattle.book.specs.Stores.{Begins}
 use Rattle.book.proofs.Refusing.{unless_tells}
 
 -- rows of a size that opening does not refuse have one number for each site

@@ -28,8 +28,8 @@ sites_answer n b = unless (topmost (differ n b ∷ [])) (Ok tt)
 abbrev quote_answer : {V L : Type 0} → Kind V L → Network V → Book V L → ℕ → ℕ → Ask L → ℕ → Result (Unit {0}) Refusal
 quote_answer K n b room card ask k = unless (topmost (drop 1 (quote_causes K n b room card ask k))) (Ok tt)
 
-abbrev recheck_answer : {V L : Type 0} → Kind V L → Network V → Book V L → ℕ → ℕ → ℕ → Result (Card V L) Refusal
-recheck_answer K n b room card k = unless (topmost (drop 1 (recheck_causes K n b room card k))) (filled_or CardEmpty (at b.cards card))
+abbrev recheck_answer : {V L : Type 0} → Network V → Book V L → ℕ → ℕ → ℕ → Result (Card V L) Refusal
+recheck_answer n b room card k = unless (topmost (drop 1 (recheck_causes n b room card k))) (filled_or CardEmpty (at b.cards card))
 
 abbrev card_answer : {V L : Type 0} → Book V L → ℕ → Result (Card V L) Refusal
 card_answer b card = unless (topmost (discard_causes b card)) (filled_or CardEmpty (at b.cards card))
@@ -53,18 +53,18 @@ module _ {V L : Type 0} {K : Kind V L} {n : Network V} {b : Book V L} {labels : 
 
 module _ {V L : Type 0} {K : Kind V L} {n : Network V} {b : Book V L} {labels : List (Slot V)} {card k : ℕ} where
   pub recheck_sites : {why : Refusal} → Err why ≡ sites_answer n b → Rechecked K n b labels card k (Err why) b labels
-  recheck_sites {why} e = recheck_refused why (first_refused (differ n b) (drop 1 (recheck_causes K n b (length labels) card k)) why e)
+  recheck_sites {why} e = recheck_refused why (first_refused (differ n b) (drop 1 (recheck_causes n b (length labels) card k)) why e)
 
-  pub recheck_checks : {why : Refusal} → Ok tt ≡ sites_answer n b → Err why ≡ recheck_answer K n b (length labels) card k → Rechecked K n b labels card k (Err why) b labels
-  recheck_checks {why} e h = recheck_refused why (recheck_why K n b card (length labels) k e why h)
+  pub recheck_checks : {why : Refusal} → Ok tt ≡ sites_answer n b → Err why ≡ recheck_answer n b (length labels) card k → Rechecked K n b labels card k (Err why) b labels
+  recheck_checks {why} e h = recheck_refused why (recheck_why n b card (length labels) k e why h)
 
-  pub recheck_standing : {answer : Option (Route V)} → Ok tt ≡ sites_answer n b → is_ok (recheck_answer K n b (length labels) card k) ≡ true →
+  pub recheck_standing : {answer : Option (Route V)} → Ok tt ≡ sites_answer n b → is_ok (recheck_answer n b (length labels) card k) ≡ true →
       option_map {U = Mark × Option (Route V)} (λ (c : Card V L). (c.mark, c.answer)) (at b.cards card) ≡ Some (Standing, answer) → Rechecked K n b labels card k (Ok answer) b labels
-  recheck_standing {answer} e ok held = go (recheck_answer K n b (length labels) card k) refl ok
+  recheck_standing {answer} e ok held = go (recheck_answer n b (length labels) card k) refl ok
     where
-      go : (r : Result (Card V L) Refusal) → r ≡ recheck_answer K n b (length labels) card k → is_ok r ≡ true → Rechecked K n b labels card k (Ok answer) b labels
+      go : (r : Result (Card V L) Refusal) → r ≡ recheck_answer n b (length labels) card k → is_ok r ≡ true → Rechecked K n b labels card k (Ok answer) b labels
       go (Ok it) h ok =
-          let known = rechecks K n b card (length labels) k e it h in
+          let known = rechecks n b card (length labels) k e it h in
           let parts : ◌≡◌ {A = Option (Mark × Option (Route V))} (Some (it.mark, it.answer)) (Some (Standing, answer)) =
           sym (ap (option_map {U = Mark × Option (Route V)} (λ (c : Card V L). (c.mark, c.answer))) known.here) ∙ held in
           let (marks, answers) = some_pair_parts it.mark Standing it.answer answer parts in
@@ -72,13 +72,13 @@ module _ {V L : Type 0} {K : Kind V L} {n : Network V} {b : Book V L} {labels : 
       go (Err why) h ok = cc
 
   pub recheck_done : {ask : Ask L} {r : Result (Option (Route V)) Refusal} {b' : Book V L} {labels' : List (Slot V)} → Ok tt ≡ sites_answer n b →
-      is_ok (recheck_answer K n b (length labels) card k) ≡ true → option_map {U = Mark × Ask L} (λ (c : Card V L). (c.mark, c.ask)) (at b.cards card) ≡ Some (Doubtful, ask) →
+      is_ok (recheck_answer n b (length labels) card k) ≡ true → option_map {U = Mark × Ask L} (λ (c : Card V L). (c.mark, c.ask)) (at b.cards card) ≡ Some (Doubtful, ask) →
       Emptied K labels' → CardAnswer K n k ask Standing b card r b' → Rechecked K n b labels card k r b' labels'
-  recheck_done {ask} {r} {b'} {labels'} e ok held empty found = go (recheck_answer K n b (length labels) card k) refl ok
+  recheck_done {ask} {r} {b'} {labels'} e ok held empty found = go (recheck_answer n b (length labels) card k) refl ok
     where
-      go : (c : Result (Card V L) Refusal) → c ≡ recheck_answer K n b (length labels) card k → is_ok c ≡ true → Rechecked K n b labels card k r b' labels'
+      go : (c : Result (Card V L) Refusal) → c ≡ recheck_answer n b (length labels) card k → is_ok c ≡ true → Rechecked K n b labels card k r b' labels'
       go (Ok it) h ok =
-          let known = rechecks K n b card (length labels) k e it h in
+          let known = rechecks n b card (length labels) k e it h in
           let parts : ◌≡◌ {A = Option (Mark × Ask L)} (Some (it.mark, it.ask)) (Some (Doubtful, ask)) =
           sym (ap (option_map {U = Mark × Ask L} (λ (c : Card V L). (c.mark, c.ask))) known.here) ∙ held in
           let (marks, asks) = some_pair_parts it.mark Doubtful it.ask ask parts in

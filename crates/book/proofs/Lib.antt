@@ -4,3 +4,4 @@ pub mod Refusing
 pub mod Answering
 pub mod Beginning
 pub mod Endings
+pub mod Sounding

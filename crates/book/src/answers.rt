@@ -3,6 +3,7 @@ ghost use Rattle.std.specs.Prelude.{◌≡◌, ◌+◌, ◌<◌, ◌≤◌, [], 
 ghost use Rattle.report.specs.declared.Refusal.TheVariants.{CardEmpty};
 ghost use Rattle.report.specs.Refusals.{topmost, unless, filled_or};
 ghost use Rattle.catalogue.specs.Places.{at};
+ghost use Rattle.routing.specs.Lent.{SameWorkspace};
 ghost use Rattle.routing.specs.Searching.{route_causes};
 ghost use Rattle.cards.specs.Calls.{Emptied, differ, quote_causes, recheck_causes, Quoted, Rechecked};
 ghost use Rattle.book.specs.Stores.{network_of, book_of, SamePlaces};
@@ -13,15 +14,14 @@ use crate::{QuoteBook, write_place};
 use cards::{Card, MarkEvent};
 use catalogue::{Catalogue, Links};
 use doubt::next_mark;
-use labels::Slot;
 use measure::Measure;
 use report::{Mark, Refusal};
-use routing::{Ask, Route, check_ask, find_route, is_ill_sized};
+use routing::{Ask, Route, Workspace, check_ask, find_route, is_ill_sized};
 
 // Whether the quote book is for as many sites as the catalogue has.
 pub fn check_sites<M: Measure>(
     catalogue: &Catalogue<'_, M>,
-    book: &QuoteBook<'_, M, M::Limit>,
+    book: &QuoteBook<'_, M>,
 ) -> Result<(), Refusal>
     ensures { result ≡ unless (topmost (differ (network_of catalogue.now) (book_of book.now) ∷ [])) (Ok tt) }
 {
@@ -35,7 +35,7 @@ pub fn check_sites<M: Measure>(
 // Why a quote is refused before it begins, the number of sites aside, or that it is not.
 fn check_quote<M: Measure>(
     catalogue: &Catalogue<'_, M>,
-    book: &QuoteBook<'_, M, M::Limit>,
+    book: &QuoteBook<'_, M>,
     room: usize,
     card: usize,
     ask: Ask<M::Limit>,
@@ -57,15 +57,14 @@ fn check_quote<M: Measure>(
 // Why a recheck is refused before it begins, the number of sites aside, or the card.
 fn check_recheck<M: Measure>(
     catalogue: &Catalogue<'_, M>,
-    book: &QuoteBook<'_, M, M::Limit>,
+    book: &QuoteBook<'_, M>,
     room: usize,
     card: usize,
     k: usize,
 ) -> Result<Card<M, M::Limit>, Refusal>
-    ensures { result ≡ unless (topmost (drop 1 (recheck_causes M.Measure.kind (network_of catalogue.now) (book_of book.now) room card k))) (filled_or CardEmpty (at book.now.cards.now card)) }
+    ensures { result ≡ unless (topmost (drop 1 (recheck_causes (network_of catalogue.now) (book_of book.now) room card k))) (filled_or CardEmpty (at book.now.cards.now card)) }
 {
     let it = filled(book, card)?;
-    check_ask::<M>(catalogue.sites(), it.ask)?;
     if is_ill_sized(catalogue.sites(), room, k) {
         return Err(Refusal::WorkspaceSize);
     }
@@ -75,7 +74,7 @@ fn check_recheck<M: Measure>(
 // Looks for the best route, and writes its legs to the row that begins at the start place: rows lie in one slice, by number.
 fn find_in_row<M: Measure, N: Links<M>>(
     network: &N,
-    labels: &mut [Slot<M>],
+    labels: &mut Workspace<'_, M>,
     k: usize,
     ask: Ask<M::Limit>,
     rows: &mut [u16],
@@ -83,8 +82,9 @@ fn find_in_row<M: Measure, N: Links<M>>(
     width: usize,
 ) -> Result<Option<Route<M>>, Refusal>
     requires inside { start + width ≤ length rows.old }
-    requires free { topmost (route_causes M.Measure.kind (N.Links.span network.now) (length labels.old) k ask width) ≡ None }
-    ensures labels { Emptied M.Measure.kind labels.new }
+    requires free { topmost (route_causes M.Measure.kind (N.Links.span network.now) (length labels.old.slots.now) k ask width) ≡ None }
+    ensures same { SameWorkspace labels.old labels.new }
+    ensures labels { Emptied M.Measure.kind labels.new.slots.now }
     ensures answer { RowAnswer M.Measure.kind (network_with (N.Links.span network.now) (N.Links.links network.now)) k ask rows.old start width result rows.new }
 {
     let row = &mut rows[start..start + width];
@@ -94,16 +94,17 @@ fn find_in_row<M: Measure, N: Links<M>>(
 // Looks for the card's best route, and files the card with this mark.
 fn answer_card<M: Measure>(
     catalogue: &Catalogue<'_, M>,
-    book: &mut QuoteBook<'_, M, M::Limit>,
-    labels: &mut [Slot<M>],
+    book: &mut QuoteBook<'_, M>,
+    labels: &mut Workspace<'_, M>,
     card: usize,
     ask: Ask<M::Limit>,
     k: usize,
     mark: Mark,
 ) -> Result<Option<Route<M>>, Refusal>
     requires inside { card < length book.old.cards.now }
-    requires free { topmost (route_causes M.Measure.kind catalogue.now.sites (length labels.old) k ask (book_of book.old).width) ≡ None }
-    ensures labels { Emptied M.Measure.kind labels.new }
+    requires free { topmost (route_causes M.Measure.kind catalogue.now.sites (length labels.old.slots.now) k ask (book_of book.old).width) ≡ None }
+    ensures same { SameWorkspace labels.old labels.new }
+    ensures labels { Emptied M.Measure.kind labels.new.slots.now }
     ensures answer { CardAnswer M.Measure.kind (network_of catalogue.now) k ask mark (book_of book.old) card result (book_of book.new) }
     ensures places { SamePlaces book.old book.new }
 {
@@ -118,17 +119,18 @@ fn answer_card<M: Measure>(
 #[tactic(auto, using(crate::proofs::Endings::quotes))]
 pub fn quote<M: Measure>(
     catalogue: &Catalogue<'_, M>,
-    book: &mut QuoteBook<'_, M, M::Limit>,
-    labels: &mut [Slot<M>],
+    book: &mut QuoteBook<'_, M>,
+    labels: &mut Workspace<'_, M>,
     card: usize,
     ask: Ask<M::Limit>,
     k: usize,
 ) -> Result<Option<Route<M>>, Refusal>
-    ensures outcome { Quoted M.Measure.kind (network_of catalogue.now) (book_of book.old) labels.old card ask k result (book_of book.new) labels.new }
+    ensures outcome { Quoted M.Measure.kind (network_of catalogue.now) (book_of book.old) labels.old.slots.now card ask k result (book_of book.new) labels.new.slots.now }
     ensures places { SamePlaces book.old book.new }
+    ensures same { SameWorkspace labels.old labels.new }
 {
     check_sites(catalogue, &*book)?;
-    check_quote(catalogue, &*book, labels.len(), card, ask, k)?;
+    check_quote(catalogue, &*book, labels.room(), card, ask, k)?;
     answer_card(catalogue, book, labels, card, ask, k, Mark::Standing)
 }
 
@@ -136,16 +138,17 @@ pub fn quote<M: Measure>(
 #[tactic(auto, using(crate::proofs::Endings::rechecks_end))]
 pub fn recheck<M: Measure>(
     catalogue: &Catalogue<'_, M>,
-    book: &mut QuoteBook<'_, M, M::Limit>,
-    labels: &mut [Slot<M>],
+    book: &mut QuoteBook<'_, M>,
+    labels: &mut Workspace<'_, M>,
     card: usize,
     k: usize,
 ) -> Result<Option<Route<M>>, Refusal>
-    ensures outcome { Rechecked M.Measure.kind (network_of catalogue.now) (book_of book.old) labels.old card k result (book_of book.new) labels.new }
+    ensures outcome { Rechecked M.Measure.kind (network_of catalogue.now) (book_of book.old) labels.old.slots.now card k result (book_of book.new) labels.new.slots.now }
     ensures places { SamePlaces book.old book.new }
+    ensures same { SameWorkspace labels.old labels.new }
 {
     check_sites(catalogue, &*book)?;
-    let Card { ask, answer, mark } = check_recheck(catalogue, &*book, labels.len(), card, k)?;
+    let Card { ask, answer, mark } = check_recheck(catalogue, &*book, labels.room(), card, k)?;
     match mark {
         Mark::Standing => Ok(answer),
         Mark::Doubtful => answer_card(

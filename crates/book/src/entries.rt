@@ -10,14 +10,15 @@ ghost use Rattle.book.specs.Stores.{book_of, SamePlaces};
 use crate::{QuoteBook, front, row_of};
 use cards::Card;
 use doubt::leg_count;
+use measure::Measure;
 use report::{Mark, Refusal};
 use routing::Route;
 
 // The card at a place that must be filled.
-pub(crate) fn filled<M: Copy, L: Copy>(
-    book: &QuoteBook<'_, M, L>,
+pub(crate) fn filled<M: Measure>(
+    book: &QuoteBook<'_, M>,
     card: usize,
-) -> Result<Card<M, L>, Refusal>
+) -> Result<Card<M, M::Limit>, Refusal>
     ensures { result ≡ unless (topmost (discard_causes (book_of book.now) card)) (filled_or CardEmpty (at book.now.cards.now card)) }
 {
     book.cards
@@ -28,7 +29,7 @@ pub(crate) fn filled<M: Copy, L: Copy>(
 
 // Empties the card's place, and zeros its row.
 #[tactic(auto, using(crate::proofs::Endings::discards))]
-pub fn discard<M: Copy, L: Copy>(book: &mut QuoteBook<'_, M, L>, card: usize) -> Result<(), Refusal>
+pub fn discard<M: Measure>(book: &mut QuoteBook<'_, M>, card: usize) -> Result<(), Refusal>
     ensures outcome { Discarded (book_of book.old) card result (book_of book.new) }
     ensures places { SamePlaces book.old book.new }
 {
@@ -54,8 +55,8 @@ fn copy_into(numbers: &[u16], reply: &mut [u16], start: usize)
 
 // Answers the card's mark and answer, and copies its legs into the reply from the start place on.
 #[tactic(auto, using(crate::proofs::Endings::reads))]
-pub fn read<M: Copy, L: Copy>(
-    book: &QuoteBook<'_, M, L>,
+pub fn read<M: Measure>(
+    book: &QuoteBook<'_, M>,
     card: usize,
     reply: &mut [u16],
     start: usize,

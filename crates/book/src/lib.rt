@@ -7,7 +7,9 @@ ghost use Rattle.catalogue.specs.Places.{at};
 ghost use Rattle.cards.specs.Books.{book_size_answer, opened_book, row_at};
 ghost use Rattle.cards.specs.Doubts.{uses};
 ghost use Rattle.routing.specs.Searching.{row_of as row_with};
-ghost use Rattle.book.specs.Stores.{row_width, book_of, SamePlaces, Begins};
+ghost use Rattle.std.proofs.Props.{props};
+ghost use Rattle.cards.specs.Books.{SoundBook};
+ghost use Rattle.book.specs.Sizes.{row_width};
 ghost use Rattle.book.specs.Answers.{Refiled};
 
 use cards::Card;
@@ -27,10 +29,11 @@ pub use marking::spread;
 
 // Cards over places and rows that the caller lends: a card's row has one number for each site.
 #[derive(Drop)]
-pub struct QuoteBook<'a, M, L> {
-    cards: &'a mut [Option<Card<M, L>>],
+pub struct QuoteBook<'a, M: Measure> {
+    cards: &'a mut [Option<Card<M, M::Limit>>],
     rows: &'a mut [u16],
     sites: usize,
+    ghost sound: { SoundBook M.Measure.kind sites cards.now rows.now } by { Prim.hlevel props },
 }
 
 // Whether a quote book of this size may be opened: 1 to 256 card places, and one row number for each card place and site.
@@ -49,6 +52,7 @@ pub fn check_book_size(sites: usize, cards: usize, rows: usize) -> Result<(), Re
 fn row_width(sites: usize, cards: usize, rows: usize) -> usize
     ensures value { result ≡ row_width sites cards rows }
     ensures fits { cards * result ≤ rows }
+    ensures whole { 0 < result → rows ≡ cards * result }
 {
     if cards.checked_mul(sites) == Some(rows) {
         sites
@@ -95,31 +99,36 @@ fn clear_row(rows: &mut [u16], start: usize, width: usize)
     rows[start..start + width].fill(0);
 }
 
-impl<'a, M: Measure> QuoteBook<'a, M, M::Limit> {
+impl<'a, M: Measure> QuoteBook<'a, M> {
+    ghost use Rattle.book.specs.Stores.{book_of, Begins};
+
     // Empties every card place and leaves the rows. The size is for `check_book_size` to refuse beforehand; this cannot refuse.
     #[tactic(auto, using(crate::proofs::Beginning::begins))]
     pub fn open(
         cards: &'a mut [Option<Card<M, M::Limit>>],
         rows: &'a mut [u16],
         sites: usize,
-    ) -> QuoteBook<'a, M, M::Limit>
+    ) -> QuoteBook<'a, M>
         ensures book { book_of result ≡ opened_book (row_width sites (length cards.old) (length rows.old)) (length cards.old) rows.old }
         ensures begins { Begins M.Measure.kind sites (length cards.old) (length rows.old) (book_of result) }
         ensures same_cards { result.cards.ghost_name ≡ cards.entry.ghost_name }
         ensures same_rows { result.rows.ghost_name ≡ rows.entry.ghost_name }
     {
+        let sites = row_width(sites, cards.len(), rows.len());
         empty_all(cards);
         QuoteBook { cards, rows, sites }
     }
 }
 
-impl<M: Copy, L: Copy> QuoteBook<'_, M, L> {
+impl<M: Measure> QuoteBook<'_, M> {
+    ghost use Rattle.book.specs.Stores.{book_of, SamePlaces};
+
     // How many numbers a card's row has.
     fn width(&self) -> usize
         ensures value { result ≡ (book_of self.now).width }
         ensures fits { length self.now.cards.now * result ≤ length self.now.rows.now }
     {
-        row_width(self.sites, self.cards.len(), self.rows.len())
+        self.sites
     }
 
     // Where the card's row begins.
@@ -144,10 +153,12 @@ impl<M: Copy, L: Copy> QuoteBook<'_, M, L> {
     }
 }
 
-impl<M: Copy, L: Copy> Cards<M, L> for QuoteBook<'_, M, L> {
+impl<M: Measure> Cards<M, M::Limit> for QuoteBook<'_, M> {
+    ghost use Rattle.book.specs.Stores.{book_of};
+
     ghost book = { book_of };
 
-    fn card(&self, place: usize) -> Option<Card<M, L>> {
+    fn card(&self, place: usize) -> Option<Card<M, M::Limit>> {
         read_place(self.cards, place)
     }
 

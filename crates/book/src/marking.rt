@@ -12,7 +12,7 @@ use doubt::{Cards, News, after_news, falls, is_struck};
 use measure::Measure;
 
 // Marks the card at the place where the news strikes it, and answers whether it went from standing to doubtful.
-fn mark_card<M: Measure>(book: &mut QuoteBook<'_, M, M::Limit>, place: usize, news: News<M>) -> bool
+fn mark_card<M: Measure>(book: &mut QuoteBook<'_, M>, place: usize, news: News<M>) -> bool
     requires { place < length book.old.cards.now }
     ensures cards { book.new.cards.now ≡ slice_set book.old.cards.now place (lapsed (strikes (rule_of M.Measure.kind news) (book_of book.old) place) (at book.old.cards.now place)) }
     ensures fell { result ≡ fell (strikes (rule_of M.Measure.kind news) (book_of book.old) place) (at book.old.cards.now place) }
@@ -32,7 +32,7 @@ fn mark_card<M: Measure>(book: &mut QuoteBook<'_, M, M::Limit>, place: usize, ne
 
 // Marks every card that the news strikes, and answers how many went from standing to doubtful. The places are counted: the rule asks the
 // whole quote book of each card, which no iterator over its cards can lend beside the card.
-pub fn spread<M: Measure>(book: &mut QuoteBook<'_, M, M::Limit>, news: News<M>) -> usize
+pub fn spread<M: Measure>(book: &mut QuoteBook<'_, M>, news: News<M>) -> usize
     ensures spread { Spread M.Measure.kind news (book_of book.old) result (book_of book.new) }
     ensures same { SamePlaces book.old book.new }
 {

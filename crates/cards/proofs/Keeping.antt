@@ -186,7 +186,7 @@ module _ {V L : Type 0} {K : Kind V L} (laws : Laws K) {catalogue : List (Option
   recheck_keeps (still_standing it e here stands) = kept
   recheck_keeps (recheck_full it site labels' e here doubtful crowded free) = kept
   recheck_keeps {labels} {card = card} {k = k} (rechecked it answer legs labels' e here doubtful found free) =
-      let no = cleared (recheck_causes K n b (length labels) card k) e in
+      let no = cleared (recheck_causes n b (length labels) card k) e in
       let f = right kept card it here in
       refiled kept ask card (Some (standing_card it.ask answer)) legs (leb-false _ _ no.1.0)
       (found_short K n it.ask b.width kept.sound f.begins (eqb-true _ _ (not-false _ no.0)) answer legs found)

@@ -60,7 +60,7 @@ module _ {V L : Type 0} {K : Kind V L} (laws : Laws K) where
         links = refl;
         sound = record {
           sites_few = ltb-false _ _ few.1;
-          places_few = rw length-replicate (ltb-false _ _ size.1);
+          places_few = λ some. rw length-replicate (ltb-false _ _ size.1);
           each = λ p s t c has. absurd (none_some (sym (none_at _ p) ∙ has));
         };
         rows = eqb-true _ _ (not-false _ book.1) ∙ ap (λ n. n * sites) (sym (length-replicate cards None));
@@ -111,7 +111,7 @@ module _ {V L : Type 0} {K : Kind V L} where
       (record { ask = ask; k = k }, refl, subst (Crowded K ask.limit (Holds m.network.links) k ask.source) same crowded)
   full_at before site now (by_quote (quoted answer legs labels' top found free)) e = cc
   full_at before {m = m} {l = l} site now (by_recheck {card = card} {k = k} (recheck_refused why top)) e =
-      absurd (not_full (recheck_causes K m.network m.book (length l.labels) card k) (refl, (refl, (refl, (refl, (refl, (refl, tt)))))) top e)
+      absurd (not_full (recheck_causes m.network m.book (length l.labels) card k) (refl, (refl, (refl, (refl, tt)))) top e)
   full_at before site now (by_recheck (still_standing it top here stands)) e = cc
   full_at before {m = m} site now (by_recheck {card = card} {k = k} (recheck_full it there labels' top here doubtful crowded free)) e =
       let same : there ≡ site = cc in

@@ -48,16 +48,16 @@ pub record Stands {V L : Type 0} (K : Kind V L) (links : List (Option (Link V)))
 -- what was found stands, read back from its row, and has room in it
 module _ {V L : Type 0} (K : Kind V L) (n : Network V) (ask : Ask L) (width : ℕ) (sound : Sound K n.sites n.links) where
   pub found_stands : (answer : Option (Route V)) (legs : List ℕ) → Found K n ask answer legs → Stands K n.links ask answer (legs_in (row_of legs width) answer)
-  found_stands None legs f = record { own = tt; beaten = f.1 sound }
+  found_stands None legs f = record { own = tt; beaten = f.1 }
   found_stands (Some route) legs f =
-      let best = f.3 in
-      subst (Stands K n.links ask (Some route)) (sym (take_at legs _ route.legs (sym f.1)))
-      (record { own = record { walk = best.walk; within = best.within; ratio = f.2; count = f.1 }; beaten = best.first })
+      let best = f.2 in
+      subst (Stands K n.links ask (Some route)) (sym (take_at legs _ route.legs (sym f.0)))
+      (record { own = record { walk = best.walk; within = best.within; ratio = f.1; count = f.0 }; beaten = best.first })
 
   pub found_short : ask.source < n.sites → width ≡ n.sites → (answer : Option (Route V)) (legs : List ℕ) → Found K n ask answer legs → length legs ≤ width
   found_short inside e None legs f = omega (arith, ap length f.0)
   found_short inside e (Some route) legs f =
-      let best = f.3 in
+      let best = f.2 in
       let h = short K (Holds n.links) n.sites (λ p s t c has. (sound.each p s t c has).end_in) legs ask.source ask.destination K.empty route.value best.walk best.simple inside in
       omega arith
 

@@ -64,6 +64,6 @@ module _ {V : Type 0} (links : List (Option (Link V))) (place : ℕ) where
         ((s t : ℕ) (c : V) → y ≡ Some (record { start = s; end = t; value = c }) → SoundLink K sites s t c) → Sound K sites (set links place y)
     sound_set sites lt sound new = record {
       sites_few = sound.sites_few;
-      places_few = rw length-set sound.places_few;
+      places_few = λ some. rw length-set (sound.places_few some);
       each = λ p s t c has. ⊎_elim (sound.each p s t c) (λ h. new s t c h.1) (holds_set lt p s t c has);
     }

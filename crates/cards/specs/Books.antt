@@ -1,10 +1,12 @@
 -- What a catalogue and its quote book hold.
-use Rattle.std.specs.Prelude.{ℕ, ◌*◌, not, ◌||◌, List, [], ◌∷◌, take, drop, replicate, Some, None, Ok, Option, Result, ◌==◌, nat_lt, slice_set}
+use Rattle.std.specs.Prelude.{◌≡◌, ℕ, ◌*◌, ◌<◌, true, not, ◌||◌, List, [], ◌∷◌, length, take, drop, replicate, Some, None, Ok, Option, Result, ◌==◌, nat_lt, slice_set}
 use Rattle.std.proofs.Math.Seq.{paste}
+use Rattle.measure.specs.Kind.{Kind}
 use Rattle.report.specs.declared.Refusal.{Refusal}
 use Rattle.report.specs.declared.Refusal.TheVariants.{QuoteBookSize}
 use Rattle.report.specs.Refusals.{topmost, unless}
 use Rattle.catalogue.specs.declared.Link.{Link}
+use Rattle.catalogue.specs.Places.{at}
 use Rattle.routing.specs.declared.Route.{Route}
 use Rattle.routing.specs.Searching.{row_of}
 use Rattle.cards.specs.declared.Card.{Card}
@@ -62,3 +64,15 @@ legs_in row answer = take (leg_count answer) row
 -- the legs of the card c, where this is its answer
 abbrev pub legs_at : {V L : Type 0} → Book V L → ℕ → Option (Route V) → List ℕ
 legs_at b c answer = legs_in (row_at b.width b.rows c) answer
+
+-- a card that a quote book for so many sites may hold: its ends are sites, its limit is admitted, and its route has fewer legs than its row has numbers
+pub record SoundCard {V L : Type 0} (K : Kind V L) (sites : ℕ) (card : Card V L) : Type 0 where
+  pub source_in : card.ask.source < sites
+  pub destination_in : card.ask.destination < sites
+  pub admitted : K.limit_admitted card.ask.limit ≡ true
+  pub short : leg_count card.answer < sites
+
+-- a quote book as its calls make it: every card is such, and there is a row number for each card place and site
+pub record SoundBook {V L : Type 0} (K : Kind V L) (sites : ℕ) (cards : List (Option (Card V L))) (rows : List ℕ) : Type 0 where
+  pub whole : 0 < sites → length rows ≡ length cards * sites
+  pub each : (c : ℕ) (card : Card V L) → at cards c ≡ Some card → SoundCard K sites card

@@ -11,7 +11,7 @@ use Rattle.catalogue.specs.declared.Link.{Link}
 use Rattle.catalogue.specs.Places.{at}
 use Rattle.catalogue.specs.Calls.{store_causes, replace_causes, remove_causes, revalued}
 use Rattle.catalogue.specs.Walks.{Holds}
-use Rattle.catalogue.specs.Routes.{Sound, Best, Outside, Crowded}
+use Rattle.catalogue.specs.Routes.{Best, Outside, Crowded}
 use Rattle.labels.specs.declared.Slot.{Slot}
 use Rattle.labels.specs.Labels.{table, Frees}
 use Rattle.routing.specs.declared.Ask.{Ask}
@@ -61,16 +61,9 @@ quote_causes K n b room card ask k =
     differ n b ∷ no_card b card ∷ (ends_out n ask, NoSuchSite) ∷ (limit_out K ask, LimitNotAdmitted) ∷ (is_some (at b.cards card), CardFilled)
     ∷ (ill_sized n.sites room k, WorkspaceSize) ∷ []
 
--- a test of what the card at a place was asked, which an empty place does not pass
-abbrev pub of_ask : {V L : Type 0} → (Ask L → Bool) → Option (Card V L) → Bool
-of_ask test None = false
-of_ask test (Some card) = test card.ask
-
--- the card's own ends and limit are looked at again, though they were right when it was filled
-abbrev pub recheck_causes : {V L : Type 0} → Kind V L → Network V → Book V L → ℕ → ℕ → ℕ → List (Bool × Refusal)
-recheck_causes K n b room card k =
-    differ n b ∷ no_card b card ∷ (of_ask (ends_out n) (at b.cards card), NoSuchSite) ∷ (of_ask (limit_out K) (at b.cards card), LimitNotAdmitted)
-    ∷ card_empty b card ∷ (ill_sized n.sites room k, WorkspaceSize) ∷ []
+-- why a recheck is refused: what the card was asked was right when it was filled, and is not looked at again
+abbrev pub recheck_causes : {V L : Type 0} → Network V → Book V L → ℕ → ℕ → ℕ → List (Bool × Refusal)
+recheck_causes n b room card k = differ n b ∷ no_card b card ∷ card_empty b card ∷ (ill_sized n.sites room k, WorkspaceSize) ∷ []
 
 -- why a discard is refused
 abbrev pub discard_causes : {V L : Type 0} → Book V L → ℕ → List (Bool × Refusal)
@@ -86,12 +79,11 @@ abbrev pub read_causes : {V L : Type 0} → Book V L → ℕ → ℕ → ℕ →
 read_causes b room card start = no_card b card ∷ card_empty b card ∷ (nat_lt room (start + legs_of (at b.cards card)), ReplyTooShort) ∷ []
 
 -- What routing answers, where it is neither refused nor full. A route: the best walk, of these legs, with its number of legs, value and ratio.
--- None: no walk joins the ends within the limit. (A catalogue that is not sound, which no run of calls makes, is answered none.)
+-- None: no walk joins the ends within the limit.
 abbrev pub Found : {V L : Type 0} → Kind V L → Network V → Ask L → Option (Route V) → List ℕ → Type 0
-Found K n ask None legs =
-    (legs ≡ []) × (Sound K n.sites n.links → Outside K ask.limit (Holds n.links) ask.source ask.destination)
+Found K n ask None legs = (legs ≡ []) × Outside K ask.limit (Holds n.links) ask.source ask.destination
 Found K n ask (Some route) legs =
-    Sound K n.sites n.links × (route.legs ≡ length legs) × (route.ratio ≡ K.ratio route.value ask.limit)
+    (route.legs ≡ length legs) × (route.ratio ≡ K.ratio route.value ask.limit)
     × Best K ask.limit (Holds n.links) ask.source ask.destination legs route.value
 
 -- more walks lead to the site than its k labels can hold
@@ -141,13 +133,13 @@ pub data Quoted {V L : Type 0} (K : Kind V L) (n : Network V) (b : Book V L) (la
 
 -- a recheck: likewise; a standing card is only looked at
 pub data Rechecked {V L : Type 0} (K : Kind V L) (n : Network V) (b : Book V L) (labels : List (Slot V)) (card k : ℕ) : Result (Option (Route V)) Refusal → Book V L → List (Slot V) → Type 0 where
-  recheck_refused : (why : Refusal) → topmost (recheck_causes K n b (length labels) card k) ≡ Some why → Rechecked K n b labels card k (Err why) b labels
-  still_standing : (it : Card V L) → topmost (recheck_causes K n b (length labels) card k) ≡ None →
+  recheck_refused : (why : Refusal) → topmost (recheck_causes n b (length labels) card k) ≡ Some why → Rechecked K n b labels card k (Err why) b labels
+  still_standing : (it : Card V L) → topmost (recheck_causes n b (length labels) card k) ≡ None →
       at b.cards card ≡ Some it → it.mark ≡ Standing → Rechecked K n b labels card k (Ok it.answer) b labels
-  recheck_full : (it : Card V L) (site : ℕ) (labels' : List (Slot V)) → topmost (recheck_causes K n b (length labels) card k) ≡ None →
+  recheck_full : (it : Card V L) (site : ℕ) (labels' : List (Slot V)) → topmost (recheck_causes n b (length labels) card k) ≡ None →
       at b.cards card ≡ Some it → it.mark ≡ Doubtful → Overfull K n it.ask k site → Emptied K labels' →
       Rechecked K n b labels card k (Err (LabelsFull site)) b labels'
-  rechecked : (it : Card V L) (answer : Option (Route V)) (legs : List ℕ) (labels' : List (Slot V)) → topmost (recheck_causes K n b (length labels) card k) ≡ None →
+  rechecked : (it : Card V L) (answer : Option (Route V)) (legs : List ℕ) (labels' : List (Slot V)) → topmost (recheck_causes n b (length labels) card k) ≡ None →
       at b.cards card ≡ Some it → it.mark ≡ Doubtful → Found K n it.ask answer legs → Emptied K labels' →
       Rechecked K n b labels card k (Ok answer) (with_card b card (Some (standing_card it.ask answer)) legs) labels'
 

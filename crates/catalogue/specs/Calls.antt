@@ -1,10 +1,9 @@
 -- What each call on a catalogue answers, and what it leaves at the places.
-use Rattle.std.specs.Prelude.{◌≡◌, ℕ, Bool, not, ◌||◌, List, [], ◌∷◌, length, is_some, Some, None, Ok, Err, Option, Result, ◌==◌, nat_le, nat_lt, slice_set}
+use Rattle.std.specs.Prelude.{ℕ, Bool, not, ◌||◌, List, [], ◌∷◌, length, is_some, Some, None, Ok, Err, Option, Result, ◌==◌, nat_le, nat_lt, slice_set}
 use Rattle.measure.specs.Kind.{Kind}
 use Rattle.report.specs.declared.Refusal.{Refusal}
 use Rattle.report.specs.declared.Refusal.TheVariants.{CatalogueSize, NoSuchLink, NoSuchSite, EndsMeet, ValueNotAdmitted, LinkTaken, LinkEmpty}
 use Rattle.report.specs.Refusals.{topmost, unless, filled_or}
-use Rattle.catalogue.specs.declared.Catalogue.{Catalogue}
 use Rattle.catalogue.specs.declared.Link.{Link}
 use Rattle.catalogue.specs.Places.{at}
 
@@ -12,6 +11,10 @@ use Rattle.catalogue.specs.Places.{at}
 abbrev pub size_answer : ℕ → ℕ → Result (Unit {0}) Refusal
 size_answer sites places =
     unless (topmost ((nat_lt sites 1 || nat_lt 256 sites || nat_lt places 1 || nat_lt 4096 places, CatalogueSize) ∷ [])) (Ok tt)
+
+-- how many sites a catalogue has that is opened: none, where the size is one that is refused
+abbrev pub opened_sites : ℕ → ℕ → ℕ
+opened_sites sites places = elim (size_answer sites places) [ Ok _ ↦ sites | Err _ ↦ 0 ]
 
 -- Storing a link.
 abbrev pub store_causes : {V L : Type 0} → Kind V L → ℕ → List (Option (Link V)) → ℕ → Link V → List (Bool × Refusal)
@@ -55,8 +58,3 @@ remove_answer links place = unless (topmost (remove_causes links place)) (filled
 -- the links after it
 abbrev pub removed : {V : Type 0} → List (Option (Link V)) → ℕ → List (Option (Link V))
 removed links place = elim (remove_answer links place) [ Ok _ ↦ slice_set links place None | Err _ ↦ links ]
-
--- as many sites as before, and the places are the same memory, whatever they hold
-pub record Keeps {V : Type 0} (was is : Catalogue V) : Type 0 where
-  pub sites : is.sites ≡ was.sites
-  pub same : is.links.ghost_name ≡ was.links.ghost_name

@@ -2,3 +2,4 @@ pub mod Places
 pub mod Calls
 pub mod Walks
 pub mod Routes
+pub mod Keeping

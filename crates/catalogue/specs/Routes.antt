@@ -15,7 +15,7 @@ pub record SoundLink {V L : Type 0} (K : Kind V L) (sites s t : ℕ) (c : V) : T
 -- a catalogue as its calls make it: of a size that can be opened, and every link is such
 pub record Sound {V L : Type 0} (K : Kind V L) (sites : ℕ) (links : List (Option (Link V))) : Type 0 where
   pub sites_few : sites ≤ 256
-  pub places_few : length links ≤ 4096
+  pub places_few : 0 < sites → length links ≤ 4096
   pub each : (p s t : ℕ) (c : V) → Holds links p s t c → SoundLink K sites s t c
 
 module _ {V L : Type 0} (K : Kind V L) (l : L) (Has : ℕ → ℕ → ℕ → V → Type 0) where

@@ -1,10 +1,12 @@
 //! The catalogue: directed links, each at a numbered place, between numbered sites.
 #![tactic(auto)]
 
-ghost use Rattle.std.specs.Prelude.{◌≡◌, ℕ, List, length, replicate, None, Option as Maybe};
+ghost use Rattle.std.specs.Prelude.{◌≡◌, ◌<◌, ◌≤◌, ℕ, List, length, replicate, None, Option as Maybe};
 ghost use Rattle.catalogue.specs.declared.Link.{Link as Edge};
 ghost use Rattle.catalogue.specs.Places.{at};
-ghost use Rattle.catalogue.specs.Calls.{size_answer, store_answer, stored, replace_answer, replaced, remove_answer, removed, Keeps};
+ghost use Rattle.catalogue.specs.Calls.{size_answer, opened_sites, store_answer, stored, replace_answer, replaced, remove_answer, removed};
+ghost use Rattle.catalogue.specs.Routes.{Sound};
+ghost use Rattle.std.proofs.Props.{props};
 
 use measure::Measure;
 use report::Refusal;
@@ -36,13 +38,17 @@ pub trait Links<M: Measure> {
     // The link at the place: none at an empty place, and none past the last.
     fn link(&self, place: usize) -> Option<Link<M>>
         ensures { result ≡ at (links self.now) place };
+
+    // whatever holds links is sound
+    ghost sound: { (n : Self) → Sound M.Measure.kind (span n) (links n) };
 }
 
 // Links over places that the caller lends.
 #[derive(Drop)]
-pub struct Catalogue<'a, M> {
+pub struct Catalogue<'a, M: Measure> {
     links: &'a mut [Option<Link<M>>],
     sites: usize,
+    ghost sound: { Sound M.Measure.kind sites links.now } by { Prim.hlevel props },
 }
 
 // Whether a catalogue of this size may be opened: 1 to 256 sites and 1 to 4,096 places.
@@ -53,6 +59,19 @@ pub fn check_size(sites: usize, places: usize) -> Result<(), Refusal>
         Ok(())
     } else {
         Err(Refusal::CatalogueSize)
+    }
+}
+
+// How many sites a catalogue has that is opened with so many sites and places: none where the size is one that is refused.
+fn opened_sites(sites: usize, places: usize) -> usize
+    ensures value { result ≡ opened_sites sites places }
+    ensures few_sites { result ≤ 256 }
+    ensures few_places { 0 < result → places ≤ 4096 }
+{
+    if check_size(sites, places).is_ok() {
+        sites
+    } else {
+        0
     }
 }
 
@@ -125,19 +144,23 @@ fn remove_at<M: Measure>(links: &mut [Option<Link<M>>], place: usize) -> Result<
 }
 
 impl<'a, M: Measure> Catalogue<'a, M> {
-    // Empties every place. The size is for `check_size` to refuse beforehand; this cannot refuse.
+    // Empties every place. The size is for `check_size` to refuse beforehand; this cannot refuse, and of a size that is refused there are no sites.
     pub fn open(links: &'a mut [Option<Link<M>>], sites: usize) -> Catalogue<'a, M>
         ensures links { result.links.now ≡ replicate (length links.old) None }
-        ensures sites { result.sites ≡ sites }
+        ensures sites { result.sites ≡ opened_sites sites (length links.old) }
         ensures same { result.links.ghost_name ≡ links.entry.ghost_name }
     {
+        let sites = opened_sites(sites, links.len());
         empty_all(links);
         Catalogue { links, sites }
     }
 }
 
 impl<M: Measure> Catalogue<'_, M> {
+    ghost use Rattle.catalogue.specs.Keeping.{Keeps};
+
     // Puts the link at an empty place.
+    #[tactic(auto, using(crate::proofs::Keeping::stores))]
     pub fn store(&mut self, place: usize, link: Link<M>) -> Result<(), Refusal>
         ensures answer { result ≡ store_answer M.Measure.kind self.old.sites self.old.links.now place link }
         ensures links { self.new.links.now ≡ stored M.Measure.kind self.old.sites self.old.links.now place link }
@@ -170,6 +193,8 @@ impl<M: Measure> Links<M> for Catalogue<'_, M> {
     ghost links = { λ c. c.links.now };
 
     ghost span = { λ c. c.sites };
+
+    ghost sound = { λ c. c.sound };
 
     fn places(&self) -> usize {
         self.links.len()

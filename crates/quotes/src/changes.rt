@@ -13,7 +13,7 @@ use report::Refusal;
 #[tactic(auto, using(crate::proofs::Outcomes::endings))]
 pub fn offer<M: Measure>(
     catalogue: &mut Catalogue<'_, M>,
-    book: &mut QuoteBook<'_, M, M::Limit>,
+    book: &mut QuoteBook<'_, M>,
     place: usize,
     link: Link<M>,
 ) -> Result<usize, Refusal>
@@ -30,7 +30,7 @@ pub fn offer<M: Measure>(
 #[tactic(auto, using(crate::proofs::Outcomes::endings))]
 pub fn change<M: Measure>(
     catalogue: &mut Catalogue<'_, M>,
-    book: &mut QuoteBook<'_, M, M::Limit>,
+    book: &mut QuoteBook<'_, M>,
     place: usize,
     value: M,
 ) -> Result<usize, Refusal>
@@ -54,7 +54,7 @@ pub fn change<M: Measure>(
 #[tactic(auto, using(crate::proofs::Outcomes::endings))]
 pub fn withdraw<M: Measure>(
     catalogue: &mut Catalogue<'_, M>,
-    book: &mut QuoteBook<'_, M, M::Limit>,
+    book: &mut QuoteBook<'_, M>,
     place: usize,
 ) -> Result<usize, Refusal>
     ensures outcome { Withdrawn M.Measure.kind (network_of catalogue.old) (book_of book.old) place result (network_of catalogue.new) (book_of book.new) }

@@ -1,16 +1,16 @@
 //! One call after the other: whatever the calls were, what a standing card says is so.
 ghost use Rattle.std.specs.Prelude.{◌≡◌};
 ghost use Rattle.cards.specs.Runs.{lent, Outcome, Continues};
+ghost use Rattle.routing.specs.Lent.{SameWorkspace};
 ghost use Rattle.book.specs.Stores.{memory_of, SameLinks, SamePlaces};
 
 use crate::changes::{change, offer, withdraw};
 use book::{QuoteBook, discard, quote, read, recheck};
 use cards::{Answer, Call, Reply};
 use catalogue::Catalogue;
-use labels::Slot;
 use measure::Measure;
 use report::Mark;
-use routing::Route;
+use routing::{Route, Workspace};
 
 // What a quote or a recheck that was carried out answers: the card stands.
 fn standing<M: Copy>(answer: Option<Route<M>>) -> Answer<M>
@@ -25,14 +25,15 @@ fn standing<M: Copy>(answer: Option<Route<M>>) -> Answer<M>
 // Carries out the call, with an arm for each, and says its outcome; `perform` adds the law over whole runs.
 fn carry_out<M: Measure>(
     catalogue: &mut Catalogue<'_, M>,
-    book: &mut QuoteBook<'_, M, M::Limit>,
-    labels: &mut [Slot<M>],
+    book: &mut QuoteBook<'_, M>,
+    labels: &mut Workspace<'_, M>,
     reply: &mut [u16],
     call: Call<M, M::Limit>,
 ) -> Reply<M>
-    ensures outcome { Outcome M.Measure.kind (memory_of catalogue.old book.old) (lent labels.old reply.old) call result (memory_of catalogue.new book.new) (lent labels.new reply.new) }
+    ensures outcome { Outcome M.Measure.kind (memory_of catalogue.old book.old) (lent labels.old.slots.now reply.old) call result (memory_of catalogue.new book.new) (lent labels.new.slots.now reply.new) }
     ensures links { SameLinks catalogue.old catalogue.new }
     ensures places { SamePlaces book.old book.new }
+    ensures labels { SameWorkspace labels.old labels.new }
 {
     match call {
         Call::Offer { place, link } => Ok(Answer::Counted(offer(catalogue, book, place, link)?)),
@@ -65,15 +66,16 @@ fn carry_out<M: Measure>(
 // to be full, there were more walks to it than its labels hold. This call is one more of them.
 pub fn perform<M: Measure>(
     catalogue: &mut Catalogue<'_, M>,
-    book: &mut QuoteBook<'_, M, M::Limit>,
-    labels: &mut [Slot<M>],
+    book: &mut QuoteBook<'_, M>,
+    labels: &mut Workspace<'_, M>,
     reply: &mut [u16],
     call: Call<M, M::Limit>,
 ) -> Reply<M>
-    ensures outcome { Outcome M.Measure.kind (memory_of catalogue.old book.old) (lent labels.old reply.old) call result (memory_of catalogue.new book.new) (lent labels.new reply.new) }
+    ensures outcome { Outcome M.Measure.kind (memory_of catalogue.old book.old) (lent labels.old.slots.now reply.old) call result (memory_of catalogue.new book.new) (lent labels.new.slots.now reply.new) }
     ensures no_better_route { Continues M.Measure.kind (memory_of catalogue.old book.old) call result (memory_of catalogue.new book.new) }
     ensures links { SameLinks catalogue.old catalogue.new }
     ensures places { SamePlaces book.old book.new }
+    ensures labels { SameWorkspace labels.old labels.new }
 {
     carry_out(catalogue, book, labels, reply, call)
 }

@@ -43,7 +43,7 @@ module _ {V L : Type 0} (K : Kind V L) (sites : ℕ) (links : List (Option (Link
   abbrev Outcome : List (Slot V) → List ℕ → Result (Option (Route V)) Refusal → Option Refusal → Type 0
   Outcome labels' row' r t = elim t [
     | Some why ↦ (r ≡ Err why) × (labels' ≡ labels) × (row' ≡ row)
-    | None ↦ Frees (table K labels') (length labels') × Answered K sites links k ask row row' r
+    | None ↦ Frees (table K labels') (length labels') × Answered K links k ask row row' r
   ]
 
   refused_so : (why : Refusal) (t : Option Refusal) → ◌≡◌ {A = Result (Unit {0}) Refusal} (Err why) (unless t (Ok tt)) → Outcome labels row (Err why) t
@@ -53,8 +53,8 @@ module _ {V L : Type 0} (K : Kind V L) (sites : ℕ) (links : List (Option (Link
   pub searched_refused : (why : Refusal) → ◌≡◌ {A = Result (Unit {0}) Refusal} (Err why) (unless (topmost (route_causes K sites (length labels) k ask (length row))) (Ok tt)) → Searched K sites links k ask labels labels row row (Err why)
   searched_refused why e = refused_so why _ e
 
-  pub searched_so : (labels' : List (Slot V)) (row' : List ℕ) (r : Result (Option (Route V)) Refusal) → topmost (route_causes K sites (length labels) k ask (length row)) ≡ None → Frees (table K labels') (length labels') → Answered K sites links k ask row row' r → Searched K sites links k ask labels labels' row row' r
+  pub searched_so : (labels' : List (Slot V)) (row' : List ℕ) (r : Result (Option (Route V)) Refusal) → topmost (route_causes K sites (length labels) k ask (length row)) ≡ None → Frees (table K labels') (length labels') → Answered K links k ask row row' r → Searched K sites links k ask labels labels' row row' r
   searched_so labels' row' r e free answered = subst (Outcome labels' row' r) (sym e) (free, answered)
 
-  pub searched_free : (labels' : List (Slot V)) (row' : List ℕ) (r : Result (Option (Route V)) Refusal) → topmost (route_causes K sites (length labels) k ask (length row)) ≡ None → Searched K sites links k ask labels labels' row row' r → Frees (table K labels') (length labels') × Answered K sites links k ask row row' r
+  pub searched_free : (labels' : List (Slot V)) (row' : List ℕ) (r : Result (Option (Route V)) Refusal) → topmost (route_causes K sites (length labels) k ask (length row)) ≡ None → Searched K sites links k ask labels labels' row row' r → Frees (table K labels') (length labels') × Answered K links k ask row row' r
   searched_free labels' row' r e h = subst (Outcome labels' row' r) e h

@@ -1,5 +1,5 @@
 -- What the parts of routing find.
-use Rattle.std.specs.Prelude.{◌≡◌, ℕ, ◌*◌, ◌<◌, ◌≤◌, Bool, true, not, ◌&&◌, List, length, Some, None, Ok, Err, Option, Result, ◌==◌, nat_lt}
+use Rattle.std.specs.Prelude.{◌≡◌, ℕ, ◌*◌, ◌<◌, ◌≤◌, true, List, length, Some, None, Ok, Err, Option, Result}
 use Rattle.measure.specs.Kind.{Kind}
 use Rattle.report.specs.declared.Refusal.{Refusal}
 use Rattle.report.specs.declared.Refusal.TheVariants.{LabelsFull}
@@ -23,15 +23,6 @@ abbrev pub EndsSo : {V L : Type 0} → Kind V L → L → List (Option (Link V))
 EndsSo K l cat k src dst A (Ok (Some p)) = Wins K l cat k src dst A p
 EndsSo K l cat k src dst A (Ok None) = Outside K l (Holds cat) src dst
 EndsSo K l cat k src dst A (Err why) = Overfull K l cat k src why
-
--- a link as a catalogue of so many sites may hold it
-abbrev pub sound_link : {V L : Type 0} → Kind V L → ℕ → Link V → Bool
-sound_link K sites link = nat_lt link.start sites && (nat_lt link.end sites && (not (link.start == link.end) && K.admitted link.value))
-
--- what stands at a place is no link, or such a link
-abbrev pub sound_at : {V L : Type 0} → Kind V L → ℕ → Option (Link V) → Bool
-sound_at K sites None = true
-sound_at K sites (Some link) = sound_link K sites link
 
 -- the row has these legs, then zeros: a walk from s to t of the value w that comes by no site twice
 abbrev pub WroteLegs : {V L : Type 0} → Kind V L → List (Option (Link V)) → ℕ → ℕ → V → ℕ → List ℕ → ℕ → Type 0

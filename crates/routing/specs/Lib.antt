@@ -1,2 +1,3 @@
 pub mod Finds
 pub mod Searching
+pub mod Lent

@@ -6,7 +6,7 @@ use Rattle.report.specs.declared.Refusal.TheVariants.{NoSuchSite, LimitNotAdmitt
 use Rattle.report.specs.Refusals.{topmost}
 use Rattle.catalogue.specs.declared.Link.{Link}
 use Rattle.catalogue.specs.Walks.{Holds}
-use Rattle.catalogue.specs.Routes.{Sound, Best, Outside, Crowded}
+use Rattle.catalogue.specs.Routes.{Best, Outside, Crowded}
 use Rattle.labels.specs.declared.Slot.{Slot}
 use Rattle.labels.specs.Labels.{table, Frees}
 use Rattle.routing.specs.declared.Ask.{Ask}
@@ -34,20 +34,18 @@ row_of legs n = legs ++ replicate (n - length legs) 0
 
 -- what an answer says of the links, and what it leaves in the row. A route: it is the best walk, with its number of legs, value and
 -- ratio. None: no walk joins the ends within the limit. Full: k + 1 walks to that site, within the limit, none dominating another.
--- Links that are not sound, which no run of calls makes, are answered none.
-abbrev pub Answered : {V L : Type 0} → Kind V L → ℕ → List (Option (Link V)) → ℕ → Ask L → List ℕ → List ℕ → Result (Option (Route V)) Refusal → Type 0
-Answered K sites links k ask was is (Ok (Some route)) =
-    Sound K sites links × (legs : List ℕ) × (is ≡ row_of legs (length was)) × (route.legs ≡ length legs)
+abbrev pub Answered : {V L : Type 0} → Kind V L → List (Option (Link V)) → ℕ → Ask L → List ℕ → List ℕ → Result (Option (Route V)) Refusal → Type 0
+Answered K links k ask was is (Ok (Some route)) =
+    (legs : List ℕ) × (is ≡ row_of legs (length was)) × (route.legs ≡ length legs)
     × (route.ratio ≡ K.ratio route.value ask.limit) × Best K ask.limit (Holds links) ask.source ask.destination legs route.value
-Answered K sites links k ask was is (Ok None) =
-    (is ≡ row_of [] (length was)) × (Sound K sites links → Outside K ask.limit (Holds links) ask.source ask.destination)
-Answered K sites links k ask was is (Err why) =
-    Sound K sites links × (is ≡ was) × (site : ℕ) × (why ≡ LabelsFull site) × Crowded K ask.limit (Holds links) k ask.source site
+Answered K links k ask was is (Ok None) = (is ≡ row_of [] (length was)) × Outside K ask.limit (Holds links) ask.source ask.destination
+Answered K links k ask was is (Err why) =
+    (is ≡ was) × (site : ℕ) × (why ≡ LabelsFull site) × Crowded K ask.limit (Holds links) k ask.source site
 
 -- the full outcome: a refusal leaves all as it was; otherwise every label is free at the end, and the answer is right
 abbrev pub Searched : {V L : Type 0} → Kind V L → ℕ → List (Option (Link V)) → ℕ → Ask L → List (Slot V) → List (Slot V) → List ℕ → List ℕ → Result (Option (Route V)) Refusal → Type 0
 Searched K sites links k ask labels labels' row row' r =
     elim (topmost (route_causes K sites (length labels) k ask (length row))) [
       | Some why ↦ (r ≡ Err why) × (labels' ≡ labels) × (row' ≡ row)
-      | None ↦ Frees (table K labels') (length labels') × Answered K sites links k ask row row' r
+      | None ↦ Frees (table K labels') (length labels') × Answered K links k ask row row' r
     ]

@@ -7,6 +7,7 @@ ghost use Rattle.labels.specs.Tournament.{Unused};
 ghost use Rattle.report.specs.Refusals.{topmost, unless};
 ghost use Rattle.labels.specs.Labels.{blank_slot, table, Frees, slot};
 ghost use Rattle.routing.specs.Finds.{Admits};
+ghost use Rattle.routing.specs.Lent.{SameWorkspace};
 ghost use Rattle.routing.specs.Searching.{ill_sized, ask_causes, route_causes, Answered, Searched};
 
 use catalogue::Links;
@@ -15,14 +16,16 @@ use labels::{Label, Slot, State};
 use measure::{Measure, Ratio};
 use outgoing::list_links;
 use report::Refusal;
-use scan::free_all;
 use tournament::Tournament;
 
 mod exploration;
+mod lent;
 mod outgoing;
+mod places;
 mod scan;
 mod tournament;
-mod workspace;
+
+pub use lent::Workspace;
 
 // What is asked for: the first walk in rank from the source to the destination within the limit.
 #[derive(Clone, Copy, PartialEq, Eq, Debug)]
@@ -112,7 +115,7 @@ fn first_route<M: Measure, N: Links<M>>(
     requires listed { length (N.Links.links exploration.now.network.now) ≤ length slots.old → Listed (N.Links.links exploration.now.network.now) (slot M.Measure.kind slots.old) exploration.now.tournament.sites 0 }
     requires fits { exploration.now.tournament.sites ≤ length row.old }
     ensures unused { Unused (table M.Measure.kind slots.new) (slot M.Measure.kind slots.new) exploration.now.tournament.k exploration.now.tournament.sites }
-    ensures answered { Answered M.Measure.kind (N.Links.span exploration.now.network.now) (N.Links.links exploration.now.network.now) exploration.now.tournament.k (record { source = exploration.now.source; destination = exploration.now.destination; limit = exploration.now.tournament.limit }) row.old row.new result }
+    ensures answered { Answered M.Measure.kind (N.Links.links exploration.now.network.now) exploration.now.tournament.k (record { source = exploration.now.source; destination = exploration.now.destination; limit = exploration.now.tournament.limit }) row.old row.new result }
 {
     let Some(p) = exploration.explore(slots)? else {
         row.fill(0);
@@ -124,7 +127,7 @@ fn first_route<M: Measure, N: Links<M>>(
     Ok(Some(Route { legs, value, ratio }))
 }
 
-// Routes through the network if it is sound, and leaves every place free. Another network, which no call makes, is answered none.
+// Routes through the network, and leaves every place free.
 fn find<M: Measure, N: Links<M>>(
     network: &N,
     slots: &mut [Slot<M>],
@@ -132,15 +135,12 @@ fn find<M: Measure, N: Links<M>>(
     ask: Ask<M::Limit>,
     row: &mut [u16],
 ) -> Result<Option<Route<M>>, Refusal>
-    requires { Admits M.Measure.kind (N.Links.span network.now) (length slots.old) k ask (length row.old) }
+    requires admits { Admits M.Measure.kind (N.Links.span network.now) (length slots.old) k ask (length row.old) }
+    requires free { Frees (table M.Measure.kind slots.old) (length slots.old) }
     ensures free { Frees (table M.Measure.kind slots.new) (length slots.new) }
-    ensures answered { Answered M.Measure.kind (N.Links.span network.now) (N.Links.links network.now) k ask row.old row.new result }
+    ensures answered { Answered M.Measure.kind (N.Links.links network.now) k ask row.old row.new result }
 {
-    free_all(slots);
-    if !list_links(network, slots) {
-        row.fill(0);
-        return Ok(None);
-    }
+    list_links(network, slots);
     let exploration = Exploration {
         network,
         tournament: Tournament {
@@ -164,22 +164,25 @@ fn find_checked<M: Measure, N: Links<M>>(
     ask: Ask<M::Limit>,
     row: &mut [u16],
 ) -> Result<Option<Route<M>>, Refusal>
-    ensures { Searched M.Measure.kind (N.Links.span network.now) (N.Links.links network.now) k ask slots.old slots.new row.old row.new result }
+    requires { Frees (table M.Measure.kind slots.old) (length slots.old) }
+    ensures searched { Searched M.Measure.kind (N.Links.span network.now) (N.Links.links network.now) k ask slots.old slots.new row.old row.new result }
+    ensures free { Frees (table M.Measure.kind slots.new) (length slots.new) }
 {
     check::<M>(network.sites(), slots.len(), k, ask, row.len())?;
     find(network, slots, k, ask, row)
 }
 
 // Finds the walk of first rank from the source to the destination within the limit, with k labels a site, and writes its legs
-// to the row. The labels are lent for this call alone: none is held when it ends.
+// to the row. The workspace is lent for this call alone.
 pub fn find_route<M: Measure, N: Links<M>>(
     network: &N,
-    labels: &mut [Slot<M>],
+    workspace: &mut Workspace<'_, M>,
     k: usize,
     ask: Ask<M::Limit>,
     row: &mut [u16],
 ) -> Result<Option<Route<M>>, Refusal>
-    ensures { Searched M.Measure.kind (N.Links.span network.now) (N.Links.links network.now) k ask labels.old labels.new row.old row.new result }
+    ensures searched { Searched M.Measure.kind (N.Links.span network.now) (N.Links.links network.now) k ask workspace.old.slots.now workspace.new.slots.now row.old row.new result }
+    ensures same { SameWorkspace workspace.old workspace.new }
 {
-    find_checked(network, labels, k, ask, row)
+    find_checked(network, workspace.slots, k, ask, row)
 }

@@ -1,45 +1,13 @@
 //! The links of a network by the site that they leave: lists that are kept in spare fields of the places that routing is lent, so that a
 //! label is extended by the links of its own site alone. A list is noted at a site's number and at each of its links' places.
-ghost use Rattle.std.specs.Prelude.{◌≡◌, ℕ, ◌+◌, ◌<◌, ◌≤◌, true, false, length, map};
-ghost use Rattle.catalogue.specs.Places.{at as place_at};
-ghost use Rattle.catalogue.specs.Routes.{Sound};
+ghost use Rattle.std.specs.Prelude.{◌≡◌, ℕ, ◌+◌, ◌<◌, ◌≤◌, length};
 ghost use Rattle.labels.specs.Labels.{slot};
 ghost use Rattle.labels.specs.Outgoing.{Skips, Lands, Listed};
 ghost use Rattle.labels.specs.Tournament.{SameLabels};
-ghost use Rattle.routing.specs.Finds.{sound_link, sound_at};
 
-use catalogue::{Link, Links};
+use catalogue::Links;
 use labels::Slot;
 use measure::Measure;
-
-// Whether the link may stand in a catalogue of so many sites: what an offer asks of it too, where the first that fails is told.
-fn is_sound_link<M: Measure>(sites: usize, link: Link<M>) -> bool
-    ensures { result ≡ sound_link M.Measure.kind sites link }
-{
-    (link.start as usize) < sites
-        && (link.end as usize) < sites
-        && link.start != link.end
-        && link.value.admitted()
-}
-
-// Whether the place is empty or holds such a link.
-fn is_sound_at<M: Measure, N: Links<M>>(network: &N, sites: usize, place: usize) -> bool
-    ensures { result ≡ sound_at M.Measure.kind sites (place_at (N.Links.links network.now) place) }
-{
-    network
-        .link(place)
-        .is_none_or(|link| is_sound_link(sites, link))
-}
-
-// Whether the network is as a catalogue's calls make it, by a scan that notes nothing.
-fn is_sound<M: Measure, N: Links<M>>(network: &N) -> bool
-    ensures yes { result ≡ true → Sound M.Measure.kind (N.Links.span network.now) (N.Links.links network.now) }
-    ensures no { result ≡ false → Sound M.Measure.kind (N.Links.span network.now) (N.Links.links network.now) → ⊥ }
-{
-    let sites = network.sites();
-    let places = network.places();
-    sites <= 256 && places <= 4096 && (0..places).all(|i| is_sound_at(network, sites, i))
-}
 
 // Has each of these sites name `none` as its first link.
 fn clear_firsts<M: Measure>(slots: &mut [Slot<M>], none: u16)
@@ -66,56 +34,37 @@ fn note_link<M: Measure>(slots: &mut [Slot<M>], site: usize, place: usize)
     slots[site].first = place as u16;
 }
 
-// Looks at one place: whether it is empty or holds a sound link, which is then put in front of its site's list.
-fn list_link<M: Measure, N: Links<M>>(
-    network: &N,
-    slots: &mut [Slot<M>],
-    sites: usize,
-    place: usize,
-) -> bool
-    requires room { sites ≤ length slots.old }
+// Looks at one place: a link there is put in front of its site's list.
+fn list_link<M: Measure, N: Links<M>>(network: &N, slots: &mut [Slot<M>], place: usize)
+    requires room { N.Links.span network.now ≤ length slots.old }
     requires inside { place < length slots.old }
     requires few { place < 4096 }
-    requires listed { Listed (N.Links.links network.now) (slot M.Measure.kind slots.old) sites (place + 1) }
-    ensures sound { result ≡ sound_at M.Measure.kind sites (place_at (N.Links.links network.now) place) }
-    ensures listed { result ≡ true → Listed (N.Links.links network.now) (slot M.Measure.kind slots.new) sites place }
+    requires listed { Listed (N.Links.links network.now) (slot M.Measure.kind slots.old) (N.Links.span network.now) (place + 1) }
+    ensures listed { Listed (N.Links.links network.now) (slot M.Measure.kind slots.new) (N.Links.span network.now) place }
     ensures labels { SameLabels (slot M.Measure.kind slots.old) (slot M.Measure.kind slots.new) }
 {
-    let Some(link) = network.link(place) else {
-        return true;
-    };
-    if !is_sound_link(sites, link) {
-        return false;
+    if let Some(link) = network.link(place) {
+        note_link(slots, link.start as usize, place);
     }
-    note_link(slots, link.start as usize, place);
-    true
 }
 
-// Whether the network is as a catalogue's calls make it. Routing looks for itself: to open a catalogue asks nothing of its size, and
-// whatever else answers a catalogue's questions is served too. The same pass lists the links, the last first, so that each list goes up.
+// Lists the links, the last first, so that each list goes up.
 // Where the network has more places than there are slots, some link would have no slot for its note, and there are no lists.
-pub(crate) fn list_links<M: Measure, N: Links<M>>(network: &N, slots: &mut [Slot<M>]) -> bool
-    requires { N.Links.span network.now ≤ length slots.old }
-    ensures yes { result ≡ true → Sound M.Measure.kind (N.Links.span network.now) (N.Links.links network.now) }
-    ensures no { result ≡ false → Sound M.Measure.kind (N.Links.span network.now) (N.Links.links network.now) → ⊥ }
-    ensures listed { result ≡ true → length (N.Links.links network.now) ≤ length slots.old → Listed (N.Links.links network.now) (slot M.Measure.kind slots.new) (N.Links.span network.now) 0 }
+pub(crate) fn list_links<M: Measure, N: Links<M>>(network: &N, slots: &mut [Slot<M>])
+    requires room { N.Links.span network.now ≤ length slots.old }
+    requires some { 0 < N.Links.span network.now }
+    ensures listed { length (N.Links.links network.now) ≤ length slots.old → Listed (N.Links.links network.now) (slot M.Measure.kind slots.new) (N.Links.span network.now) 0 }
     ensures labels { SameLabels (slot M.Measure.kind slots.old) (slot M.Measure.kind slots.new) }
 {
     let sites = network.sites();
     let places = network.places();
     if places > slots.len() {
-        return is_sound(network);
-    }
-    if sites > 256 || places > 4096 {
-        return false;
+        return;
     }
     clear_firsts(&mut slots[..sites], places as u16);
     for place in (0..places).rev() {
-        if !list_link(network, slots, sites, place) {
-            return false;
-        }
+        list_link(network, slots, place);
     }
-    true
 }
 
 // The first place with a link from the site: past the last where none leaves it. Where there are no lists, the first place of all.

@@ -22,6 +22,7 @@ same_again p q = record {
   links = q.links ∙ p.links;
   places = (q.places.0 ∙ p.places.0, q.places.1 ∙ p.places.1);
   labels = q.labels ∙ p.labels;
+  slots = record { same = q.slots.same ∙ p.slots.same; room = q.slots.room ∙ p.slots.room };
   reply = q.reply ∙ p.reply;
   room = q.room ∙ p.room;
 }

@@ -4,6 +4,7 @@ use Rattle.labels.specs.declared.Slot.{Slot}
 use Rattle.measure.specs.Products.{trunk_kind}
 use Rattle.cards.specs.declared.Call.{Call}
 use Rattle.cards.specs.Runs.{Reply, Memory, Lent, lent, Outcome}
+use Rattle.routing.specs.Lent.{SameWorkspace}
 use Rattle.book.specs.Stores.{memory_of, SameLinks, SamePlaces}
 use Rattle.service.specs.Serving.{TrunkValue, TrunkLimits}
 use Rattle.service.specs.declared.serving.Service.{Service}
@@ -14,7 +15,7 @@ memory_in s = memory_of s.catalogue.now s.book.now
 
 -- what is lent to a call
 abbrev pub lent_by : Service → Lent TrunkValue
-lent_by s = lent s.labels.now s.reply.now
+lent_by s = lent s.labels.now.slots.now s.reply.now
 
 -- How much is lent to each call: how many labels a site, and how many labels and numbers in all.
 pub record Room : Type 0 where
@@ -33,7 +34,7 @@ pub record Lends (room : Room) (l : Lent TrunkValue) : Type 0 where
 
 -- how much a service lends to each call
 abbrev pub room_in : Service → Room
-room_in s = room_of s.k s.labels.now s.reply.now
+room_in s = room_of s.k s.labels.now.slots.now s.reply.now
 
 -- a call of a service had this full outcome
 abbrev pub Performed : Service → Call TrunkValue TrunkLimits → Reply TrunkValue → Service → Type 0
@@ -46,5 +47,6 @@ pub record SameService (s s' : Service) : Type 0 where
   pub links : SameLinks s.catalogue.now s'.catalogue.now
   pub places : SamePlaces s.book.now s'.book.now
   pub labels : s'.labels.ghost_name ≡ s.labels.ghost_name
+  pub slots : SameWorkspace s.labels.now s'.labels.now
   pub reply : s'.reply.ghost_name ≡ s.reply.ghost_name
   pub room : room_in s' ≡ room_in s

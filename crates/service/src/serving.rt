@@ -6,18 +6,18 @@ ghost use Rattle.service.specs.Services.{memory_in, lent_by, Performed, SameServ
 use crate::{call_of, card_read, print};
 use cards::{Call, Reply};
 use catalogue::Catalogue;
-use labels::Slot;
 use line::Reply as Printed;
 use measure::pair::{Trunk, TrunkLimit};
 use quotes::{QuoteBook, perform};
 use records::Record;
+use routing::Workspace;
 
 // A catalogue and its quote book, and what is lent to each of their calls: labels, k of them a site, and numbers for a route's legs.
 #[derive(Drop)]
 pub struct Service<'s, 'm> {
     pub catalogue: &'s mut Catalogue<'m, Trunk>,
-    pub book: &'s mut QuoteBook<'m, Trunk, TrunkLimit>,
-    pub labels: &'s mut [Slot<Trunk>],
+    pub book: &'s mut QuoteBook<'m, Trunk>,
+    pub labels: &'s mut Workspace<'m, Trunk>,
     pub k: usize,
     pub reply: &'s mut [u16],
 }

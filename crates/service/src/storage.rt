@@ -11,6 +11,7 @@ use catalogue::{Catalogue, Link, check_size};
 use labels::Slot;
 use measure::pair::{Trunk, TrunkLimit};
 use quotes::{QuoteBook, check_book_size};
+use routing::Workspace;
 use std::io::{Read, Write};
 
 // How large a program is: its sites, link places and cards, how many walks routing can hold at a site, and how many bytes of input it reads.
@@ -39,14 +40,14 @@ pub struct Storage<'m> {
 // their calls at one lifetime, and here all come at one.
 fn serve_day<'s, 'm, W: Write>(
     catalogue: &'s mut Catalogue<'m, Trunk>,
-    book: &'s mut QuoteBook<'m, Trunk, TrunkLimit>,
-    labels: &'s mut [Slot<Trunk>],
+    book: &'s mut QuoteBook<'m, Trunk>,
+    labels: &'s mut Workspace<'m, Trunk>,
     k: usize,
     reply: &'s mut [u16],
     out: &mut W,
     feed: &[u8],
 ) -> Result<(), ServiceError>
-    ensures { ServesDay feed.now (room_of k labels.old reply.old) (memory_of catalogue.old book.old) (W.Write.contents out.old) (W.Write.contents out.new) result }
+    ensures { ServesDay feed.now (room_of k labels.old.slots.now reply.old) (memory_of catalogue.old book.old) (W.Write.contents out.old) (W.Write.contents out.new) result }
 {
     let mut service = Service {
         catalogue,
@@ -79,12 +80,13 @@ impl Storage<'_> {
         rows.fill(0);
         let mut catalogue = Catalogue::open(links, sizes.sites);
         let mut book = QuoteBook::open(cards, rows, sizes.sites);
+        let mut workspace = Workspace::new(labels);
         let got = read_input(input, buffer)?;
         let feed = &buffer[0..got];
         serve_day(
             &mut catalogue,
             &mut book,
-            labels,
+            &mut workspace,
             sizes.walks,
             reply,
             out,

@@ -25,7 +25,6 @@ returns-clause-answered g c =
     let held = waits_held _ wins.waits in
     let here = get_or_default c.explore.new.slots p c.index-slots-p.result (blank_slot K) (held_inside K c.explore.new.slots p held) in
     let (legs, row, count, walk, simple) = c.write_legs-legs.ensures in (
-      e.sound,
       legs,
       row,
       count,

@@ -1,14 +1,19 @@
-use Rattle.std.proofs.Common.{ℕ, ◌+◌, ◌*◌, ◌≤◌, length, Some, Option, Result, sym, refl, ap, ◌∙◌, subst}
+use Rattle.std.proofs.Common.{arith, ℕ, ◌+◌, ◌*◌, ◌≤◌, length, Some, Option, Result, sym, refl, ap, ◌∙◌, subst}
 use lib.Seq.{paste}
 use Rattle.std.proofs.lemmas.Result.{err_from_is_err_and}
 use Rattle.report.specs.declared.Refusal.{Refusal}
 use Rattle.routing.specs.declared.Route.{Route}
 use Rattle.routing.specs.Searching.{row_of}
 use Rattle.cards.specs.Books.{Book}
-use Rattle.book.specs.Stores.{row_width, network_of, book_of}
+use Rattle.book.specs.Stores.{network_of, book_of}
 use Rattle.book.specs.Answers.{CardAnswer, card_of}
 use Rattle.book.proofs.Booked.{same_book, refiled}
 use Rattle.book.proofs.Refusing.{exits}
+use Rattle.routing.proofs.Refusing.{admits}
+use Rattle.cards.specs.declared.Card.{Card}
+use Rattle.cards.specs.Books.{SoundCard}
+use Rattle.cards.proofs.Clearing.{some_same}
+use Rattle.book.proofs.Sounding.{sound_write, found_few}
 use Rattle.book.proofs.answers.answer_card.Goals as goal
 
 pub returns-in_err-answer : goal.returns-in_err-answer
@@ -17,11 +22,12 @@ returns-in_err-answer g c =
     let told = c.in_err-answer.ensures in
     let (site, full, crowded, rows) = told.answer in
     let after : Book g.row.M.Denot g.row.M-Limit.Denot =
-    record { width = row_width q.sites (length q.cards.now) (length c.find_in_row.new.rows); cards = q.cards.now; rows = c.find_in_row.new.rows } in
+    record { width = q.sites; cards = q.cards.now; rows = c.find_in_row.new.rows } in
     record {
+      same = told.same;
       labels = told.labels;
       answer = subst (λ (r : Result (Option (Route g.row.M.Denot)) Refusal). CardAnswer g.M.Measure.kind (network_of c.args.catalogue.now) c.args.k c.args.ask c.args.mark (book_of q) c.args.card r after)
-          (sym (exits (err_from_is_err_and c.from_residual.result c.from_residual.ensures.1))) (site, full, crowded, same_book q q.sites refl refl rows);
+          (sym (exits (err_from_is_err_and c.from_residual.result c.from_residual.ensures.1))) (site, full, crowded, same_book q q.sites refl rows);
       places = (refl, refl);
     }
 
@@ -39,7 +45,25 @@ returns g c =
     ∙ ap (λ (n : ℕ). paste b.rows (card * w) (row_of legs n) n) c.width-width.ensures.value in
     let room : length legs ≤ w = subst (λ (n : ℕ). length legs ≤ n) c.width-width.ensures.value few in
     record {
+      same = told.same;
       labels = told.labels;
-      answer = (legs, found, refiled q q.sites card (Some (card_of c.args.ask c.in_ok-answer.answer c.args.mark)) legs inside room refl c.write_place.ensures left);
+      answer = (legs, found, refiled q q.sites card (Some (card_of c.args.ask c.in_ok-answer.answer c.args.mark)) legs refl c.write_place.ensures left);
       places = (refl, refl);
     }
+
+pub invariant_of-book-2 : goal.invariant_of-book-2
+invariant_of-book-2 g c =
+    let K = g.M.Measure.kind in
+    let q = c.args.book.now in
+    let n = network_of c.args.catalogue.now in
+    let ask = c.args.ask in
+    let adm = admits K n.sites (length c.args.labels.now.slots.now) c.args.k ask q.sites c.requires.free in
+    let (legs, found, few, rows) = c.in_ok-answer.ensures.answer in
+    let card = card_of ask c.in_ok-answer.answer c.args.mark in
+    let fit : SoundCard K q.sites card = record {
+      source_in = omega (arith, adm.source, adm.fits);
+      destination_in = omega (arith, adm.destination, adm.fits);
+      admitted = adm.limit;
+      short = found_few K n ask q.sites c.args.catalogue.now.sound adm.source adm.fits c.in_ok-answer.answer legs found;
+    } in
+    record { sound = sound_write q.sound c.args.card (Some card) c.write_place.new.places c.find_in_row.new.rows c.requires.inside c.write_place.ensures c.find_in_row.auto.rows (λ x e. subst (λ (y : Card g.row.M.Denot g.row.M-Limit.Denot). SoundCard K q.sites y) (some_same e) fit) }

@@ -6,6 +6,7 @@ use Rattle.cards.specs.Books.{Book}
 use Rattle.cards.specs.Doubts.{Rule, strikes, lapsed, fell, event_of, is_standing, marked, next}
 use Rattle.doubt.specs.News.{rule_of, struck_in, struck_at, after, falls}
 use Rattle.book.specs.Stores.{book_of}
+use Rattle.book.proofs.Sounding.{sound_after}
 use Rattle.book.proofs.marking.mark_card.Goals as goal
 use Rattle.book.proofs.marking.mark_card.Goals.{then-is_struck, else-is_struck}
 
@@ -38,3 +39,11 @@ returns g c =
       sites = refl;
       same = (refl, refl);
     }
+
+pub invariant_of-book : goal.invariant_of-book
+invariant_of-book g c =
+    let q = c.args.book.now in
+    let place = c.args.place in
+    let wrote = c.write_place.ensures ∙ ap (λ (x : Option (Card g.row.M.Denot g.row.M-Limit.Denot)). set q.cards.now place x)
+        (c.after_news.ensures ∙ ap (after c.if-is_struck.event) c.card-was.ensures) in
+    record { sound = sound_after q.sound place c.if-is_struck.event c.write_place.new.places c.requires wrote }

@@ -32,7 +32,7 @@ loop-place-preserved g c =
     let cards = c.loop-place.book.cards.now in
     let place = c.loop-place.place in
     let inv = c.loop-place.invariant in
-    let now_is : book_of c.loop-place.book ≡ with_cards b cards = same_book c.args.book.now c.loop-place.book.sites inv.sites inv.partly.places inv.rows in
+    let now_is : book_of c.loop-place.book ≡ with_cards b cards = same_book c.args.book.now c.loop-place.book.sites inv.sites inv.rows in
     let after = c.mark_card.ensures.cards
     ∙ ap (λ (x : Book g.row.M.Denot g.row.M-Limit.Denot). set cards place (lapsed (strikes rule x place) (at cards place))) now_is in
     let fallen = c.mark_card.ensures.fell ∙ ap (λ (x : Book g.row.M.Denot g.row.M-Limit.Denot). fell (strikes rule x place) (at cards place)) now_is in
@@ -51,7 +51,7 @@ returns g c =
       spread = record {
         doubted = partly_all (rule_of g.M.Measure.kind c.args.news) (book_of c.args.book.now) c.loop-place.book.cards.now c.loop-place.place c.loop-place.count
             c.loop-place-test.false c.loop-place.auto.place-end inv.partly;
-        rest = same_book c.args.book.now c.loop-place.book.sites inv.sites inv.partly.places inv.rows;
+        rest = same_book c.args.book.now c.loop-place.book.sites inv.sites inv.rows;
       };
       same = inv.same;
     }

@@ -12,6 +12,7 @@ returns-in_err-offer-in-Offer g c =
       outcome = on_offer c.in-Offer.is c.offer.ensures.outcome (exits (err_from_is_err_and exit.result exit.ensures.1) ∙ ap counted (sym c.in_err-offer-in-Offer.was));
       links = c.offer.ensures.links;
       places = c.offer.ensures.places;
+      labels = record { same = refl; room = refl };
     }
 
 pub returns-in_ok-offer-in-Offer : goal.returns-in_ok-offer-in-Offer
@@ -19,6 +20,7 @@ returns-in_ok-offer-in-Offer g c = record {
   outcome = on_offer c.in-Offer.is c.offer.ensures.outcome (ap counted (sym c.in_ok-offer-in-Offer.was));
   links = c.offer.ensures.links;
   places = c.offer.ensures.places;
+  labels = record { same = refl; room = refl };
 }
 
 pub returns-in_err-change-in-Change : goal.returns-in_err-change-in-Change
@@ -28,6 +30,7 @@ returns-in_err-change-in-Change g c =
       outcome = on_change c.in-Change.is c.change.ensures.outcome (exits (err_from_is_err_and exit.result exit.ensures.1) ∙ ap counted (sym c.in_err-change-in-Change.was));
       links = c.change.ensures.links;
       places = c.change.ensures.places;
+      labels = record { same = refl; room = refl };
     }
 
 pub returns-in_ok-change-in-Change : goal.returns-in_ok-change-in-Change
@@ -35,6 +38,7 @@ returns-in_ok-change-in-Change g c = record {
   outcome = on_change c.in-Change.is c.change.ensures.outcome (ap counted (sym c.in_ok-change-in-Change.was));
   links = c.change.ensures.links;
   places = c.change.ensures.places;
+  labels = record { same = refl; room = refl };
 }
 
 pub returns-in_err-withdraw-in-Withdraw : goal.returns-in_err-withdraw-in-Withdraw
@@ -44,6 +48,7 @@ returns-in_err-withdraw-in-Withdraw g c =
       outcome = on_withdrawal c.in-Withdraw.is c.withdraw.ensures.outcome (exits (err_from_is_err_and exit.result exit.ensures.1) ∙ ap counted (sym c.in_err-withdraw-in-Withdraw.was));
       links = c.withdraw.ensures.links;
       places = c.withdraw.ensures.places;
+      labels = record { same = refl; room = refl };
     }
 
 pub returns-in_ok-withdraw-in-Withdraw : goal.returns-in_ok-withdraw-in-Withdraw
@@ -51,6 +56,7 @@ returns-in_ok-withdraw-in-Withdraw g c = record {
   outcome = on_withdrawal c.in-Withdraw.is c.withdraw.ensures.outcome (ap counted (sym c.in_ok-withdraw-in-Withdraw.was));
   links = c.withdraw.ensures.links;
   places = c.withdraw.ensures.places;
+  labels = record { same = refl; room = refl };
 }
 
 pub returns-in_err-quote-in-Quote : goal.returns-in_err-quote-in-Quote
@@ -60,6 +66,7 @@ returns-in_err-quote-in-Quote g c =
       outcome = on_quote c.in-Quote.is c.quote.ensures.outcome (exits (err_from_is_err_and exit.result exit.ensures.1) ∙ ap answered (sym c.in_err-quote-in-Quote.was));
       links = refl;
       places = c.quote.ensures.places;
+      labels = c.quote.ensures.same;
     }
 
 pub returns-in_ok-quote-in-Quote : goal.returns-in_ok-quote-in-Quote
@@ -67,6 +74,7 @@ returns-in_ok-quote-in-Quote g c = record {
   outcome = on_quote c.in-Quote.is c.quote.ensures.outcome (ap Ok c.standing.ensures ∙ ap answered (sym c.in_ok-quote-in-Quote.was));
   links = refl;
   places = c.quote.ensures.places;
+  labels = c.quote.ensures.same;
 }
 
 pub returns-in_err-recheck-in-Recheck : goal.returns-in_err-recheck-in-Recheck
@@ -76,6 +84,7 @@ returns-in_err-recheck-in-Recheck g c =
       outcome = on_recheck c.in-Recheck.is c.recheck.ensures.outcome (exits (err_from_is_err_and exit.result exit.ensures.1) ∙ ap answered (sym c.in_err-recheck-in-Recheck.was));
       links = refl;
       places = c.recheck.ensures.places;
+      labels = c.recheck.ensures.same;
     }
 
 pub returns-in_ok-recheck-in-Recheck : goal.returns-in_ok-recheck-in-Recheck
@@ -83,6 +92,7 @@ returns-in_ok-recheck-in-Recheck g c = record {
   outcome = on_recheck c.in-Recheck.is c.recheck.ensures.outcome (ap Ok c.standing-in-Recheck.ensures ∙ ap answered (sym c.in_ok-recheck-in-Recheck.was));
   links = refl;
   places = c.recheck.ensures.places;
+  labels = c.recheck.ensures.same;
 }
 
 pub returns-in_err-discard-in-Discard : goal.returns-in_err-discard-in-Discard
@@ -92,6 +102,7 @@ returns-in_err-discard-in-Discard g c =
       outcome = on_discard c.in-Discard.is c.discard.ensures.outcome (exits (err_from_is_err_and exit.result exit.ensures.1) ∙ ap emptied (sym c.in_err-discard-in-Discard.was));
       links = refl;
       places = c.discard.ensures.places;
+      labels = record { same = refl; room = refl };
     }
 
 pub returns-in_ok-discard-in-Discard : goal.returns-in_ok-discard-in-Discard
@@ -99,6 +110,7 @@ returns-in_ok-discard-in-Discard g c = record {
   outcome = on_discard c.in-Discard.is c.discard.ensures.outcome (ap emptied (sym c.in_ok-discard-in-Discard.was));
   links = refl;
   places = c.discard.ensures.places;
+  labels = record { same = refl; room = refl };
 }
 
 pub returns-in_err-mark-in-Read : goal.returns-in_err-mark-in-Read
@@ -108,6 +120,7 @@ returns-in_err-mark-in-Read g c =
       outcome = on_reading c.in-Read.is c.read.ensures (exits (err_from_is_err_and exit.result exit.ensures.1) ∙ ap showing (sym c.in_err-mark-in-Read.was));
       links = refl;
       places = (refl, refl);
+      labels = record { same = refl; room = refl };
     }
 
 pub returns-in_ok-mark-in-Read : goal.returns-in_ok-mark-in-Read
@@ -115,4 +128,5 @@ returns-in_ok-mark-in-Read g c = record {
   outcome = on_reading c.in-Read.is c.read.ensures (ap showing (sym c.in_ok-mark-in-Read.was));
   links = refl;
   places = (refl, refl);
+      labels = record { same = refl; room = refl };
 }

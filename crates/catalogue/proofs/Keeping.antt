@@ -1,0 +1,105 @@
+-- Each call leaves a sound catalogue sound.
+use Rattle.std.proofs.Common.{◌≡◌, ℕ, ◌<◌, Bool, true, false, cond, ◌⊎◌, List, [], ◌∷◌, length, set, is_some, Some, None, Ok, Err, Option, Result, sym, refl, ap, ◌∙◌, subst, inl, inr, ⊎_elim, length-set, get_or-set_other, get_or-set_same}
+use Rattle.std.proofs.lemmas.Bool.{both_ways, cases_eq, or_parts, leb-false, not-false, eqb-false}
+use Rattle.measure.specs.Kind.{Kind}
+use Rattle.report.specs.declared.Refusal.{Refusal}
+use Rattle.report.specs.declared.Refusal.TheVariants.{LinkEmpty}
+use Rattle.report.specs.Refusals.{topmost, unless, filled_or}
+use Rattle.catalogue.specs.declared.Link.{Link}
+use Rattle.catalogue.specs.Places.{at}
+use Rattle.catalogue.specs.Walks.{Holds}
+use Rattle.catalogue.specs.Calls.{store_causes, stored, replace_causes, replaced, revalued, remove_causes, removed}
+use Rattle.catalogue.specs.Routes.{Sound, SoundLink}
+
+some_same : {A : Type 0} {a b : A} → Some a ≡ Some b → a ≡ b
+some_same e = cc
+
+none_some : {A : Type 0} {a : A} → None ≡ Some a → ⊥
+none_some e = both_ways false refl (ap is_some e)
+
+-- every cause passes
+abbrev Each : (Bool × Refusal → Type 0) → List (Bool × Refusal) → Type 0
+Each P [] = Unit {0}
+Each P (c ∷ cs) = P c × Each P cs
+
+cond_none : {A : Type 0} (b : Bool) (x : A) (t : Option A) → cond b (Some x) t ≡ None → (b ≡ false) × (t ≡ None)
+cond_none true x t e = absurd (none_some (sym e))
+cond_none false x t e = (refl, e)
+
+-- no cause holds where none is reported
+cleared : (cs : List (Bool × Refusal)) → topmost cs ≡ None → Each (λ c. c.0 ≡ false) cs
+cleared [] e = tt
+cleared (c ∷ cs) e = let h = cond_none c.0 c.1 (topmost cs) e in (h.0, cleared cs h.1)
+
+-- what is so where a call is refused, and where it is carried out, is so
+either : {A B : Type 0} (P : B → Type 0) (f : A → B) (b : B) (o : Option Refusal) (r : Result A Refusal) → P b → (o ≡ None → (a : A) → r ≡ Ok a → P (f a)) → P (elim (unless o r) [ Ok a ↦ f a | Err _ ↦ b ])
+either P f b (Some why) r kept done = kept
+either P f b None (Ok a) kept done = done refl a refl
+either P f b None (Err why) kept done = kept
+
+filled_some : {A : Type 0} (why : Refusal) (o : Option A) (a : A) → filled_or why o ≡ Ok a → o ≡ Some a
+filled_some why (Some x) a e = cc
+filled_some why None a e = absurd (let z : Err why ≡ Ok a = e in cc)
+
+module _ {V : Type 0} (links : List (Option (Link V))) (place : ℕ) (y : Option (Link V)) where
+  holds_set : place < length links → (p s t : ℕ) (c : V) → Holds (set links place y) p s t c →
+      Holds links p s t c ⊎ ((p ≡ place) × (y ≡ Some (record { start = s; end = t; value = c })))
+  holds_set lt p s t c has =
+      ⊎_elim
+      (λ e. inr (e, sym (get_or-set_same links place y None lt) ∙ subst (λ x. Holds (set links place y) x s t c) e has))
+      (λ ne. inl (sym (get_or-set_other links place p y None ne) ∙ has))
+      (cases_eq p place)
+
+  -- a sound catalogue is so after a link that may stand in it is written
+  pub sound_set : {L : Type 0} {K : Kind V L} (sites : ℕ) → place < length links → Sound K sites links →
+      ((s t : ℕ) (c : V) → y ≡ Some (record { start = s; end = t; value = c }) → SoundLink K sites s t c) → Sound K sites (set links place y)
+  sound_set sites lt sound new = record {
+    sites_few = sound.sites_few;
+    places_few = λ some. rw length-set (sound.places_few some);
+    each = λ p s t c has. ⊎_elim (sound.each p s t c) (λ h. new s t c h.1) (holds_set lt p s t c has);
+  }
+
+module _ {V L : Type 0} (K : Kind V L) (sites : ℕ) (links : List (Option (Link V))) (place : ℕ) (sound : Sound K sites links) where
+  pub sound_stored : (link : Link V) → Sound K sites (stored K sites links place link)
+  sound_stored link =
+      either (Sound K sites) (λ (_ : Unit {0}). set links place (Some link)) links (topmost (store_causes K sites links place link)) (Ok tt) sound
+      (λ e a is.
+      let no = cleared (store_causes K sites links place link) e in
+      let lt = leb-false _ _ no.0 in
+      let ends = or_parts _ _ no.1.0 in
+      let fit : SoundLink K sites link.start link.end link.value = record {
+        start_in = leb-false _ _ ends.0;
+        end_in = leb-false _ _ ends.1;
+        ends_apart = eqb-false _ _ no.1.1.0;
+        admitted = not-false _ no.1.1.1.0;
+      } in
+      sound_set links place (Some link) sites lt sound (λ s t c is. subst (λ (z : Link V). SoundLink K sites z.start z.end z.value) (some_same is) fit))
+
+  pub sound_replaced : (value : V) → Sound K sites (replaced K links place value)
+  sound_replaced value =
+      either (Sound K sites) (λ (old : Link V). set links place (Some (revalued old value))) links (topmost (replace_causes K links place value)) (filled_or LinkEmpty (at links place)) sound
+      (λ e old is.
+      let no = cleared (replace_causes K links place value) e in
+      let lt = leb-false _ _ no.0 in
+      let adm = not-false _ no.1.0 in
+      let was = sound.each place old.start old.end old.value (filled_some LinkEmpty (at links place) old is) in
+      let fit : SoundLink K sites old.start old.end value = record { start_in = was.start_in; end_in = was.end_in; ends_apart = was.ends_apart; admitted = adm } in
+      sound_set links place (Some (revalued old value)) sites lt sound (λ s t c is. subst (λ (z : Link V). SoundLink K sites z.start z.end z.value) (some_same is) fit))
+
+  pub sound_removed : Sound K sites (removed links place)
+  sound_removed =
+      either (Sound K sites) (λ (old : Link V). set links place None) links (topmost (remove_causes links place)) (filled_or LinkEmpty (at links place)) sound
+      (λ e old is.
+      let no = cleared (remove_causes links place) e in
+      let lt = leb-false _ _ no.0 in
+      sound_set links place None sites lt sound (λ s t c is. absurd (none_some is)))
+
+module _ {V L : Type 0} {K : Kind V L} {sites : ℕ} {links after : List (Option (Link V))} (sound : Sound K sites links) (place : ℕ) where
+  pub stores : (link : Link V) → after ≡ stored K sites links place link → Sound K sites after
+  stores link e = subst (Sound K sites) (sym e) (sound_stored K sites links place sound link)
+
+  pub replaces : (value : V) → after ≡ replaced K links place value → Sound K sites after
+  replaces value e = subst (Sound K sites) (sym e) (sound_replaced K sites links place sound value)
+
+  pub removes : after ≡ removed links place → Sound K sites after
+  removes e = subst (Sound K sites) (sym e) (sound_removed K sites links place sound)

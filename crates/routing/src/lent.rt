@@ -1,0 +1,35 @@
+//! The memory that is lent to a search.
+ghost use Rattle.std.specs.Prelude.{◌≡◌, length, map};
+ghost use Rattle.std.proofs.Props.{props};
+ghost use Rattle.labels.specs.Labels.{table, freed, Frees};
+
+use crate::scan::free_all;
+use labels::Slot;
+use measure::Measure;
+
+// Places for labels that the caller lends: between two searches every one is free.
+#[derive(Drop)]
+pub struct Workspace<'a, M: Measure> {
+    pub(crate) slots: &'a mut [Slot<M>],
+    ghost free: { Frees (table M.Measure.kind slots.now) (length slots.now) } by { Prim.hlevel props },
+}
+
+impl<'a, M: Measure> Workspace<'a, M> {
+    // Frees every place.
+    pub fn new(slots: &'a mut [Slot<M>]) -> Workspace<'a, M>
+        ensures slots { result.slots.now ≡ map freed slots.old }
+        ensures same { result.slots.ghost_name ≡ slots.entry.ghost_name }
+    {
+        free_all(slots);
+        Workspace { slots }
+    }
+}
+
+impl<M: Measure> Workspace<'_, M> {
+    // How many places there are.
+    pub fn room(&self) -> usize
+        ensures { result ≡ length self.now.slots.now }
+    {
+        self.slots.len()
+    }
+}
