@@ -7,9 +7,10 @@ use Rattle.std.proofs.lemmas.Bool.{not-false, leb-false, eqb-true, cond-false, l
 use Rattle.measure.specs.Kind.{Kind}
 use Rattle.report.specs.declared.Refusal.{Refusal}
 use Rattle.report.specs.declared.Refusal.TheVariants.{CardEmpty}
-use Rattle.routing.specs.declared.Ask.{Ask}
-use Rattle.routing.specs.declared.Route.{Route}
-use Rattle.routing.specs.Searching.{row_of, route_causes, Answered}
+use Rattle.catalogue.specs.declared.routes.Ask.{Ask}
+use Rattle.catalogue.specs.declared.routes.Route.{Route}
+use Rattle.catalogue.specs.Asks.{row_of}
+use Rattle.routing.specs.Searching.{route_causes, Answered}
 use Rattle.report.specs.declared.Mark.TheVariants.{Standing, Doubtful}
 use Rattle.report.specs.Refusals.{topmost, unless, filled_or}
 use Rattle.catalogue.specs.Places.{at}
@@ -37,13 +38,10 @@ row_room legs row width is long = let h = simp (length-append, length-replicate)
 module _ {V L : Type 0} (K : Kind V L) (n : Network V) (k : ℕ) (ask : Ask L) (rows row row' rows' : List ℕ) (start width : ℕ) where
   pub row_answered : start + width ≤ length rows → row ≡ take width (drop start rows) → length row ≡ width → length row' ≡ width → rows' ≡ paste rows start row' width →
       (r : Result (Option (Route V)) Refusal) → Answered K n.links k ask row row' r → RowAnswer K n k ask rows start width r rows'
-  row_answered fits is long long' put (Ok (Some route)) (legs, left, count, ratio, best) =
+  row_answered fits is long long' put (Ok answer) (legs, found, left) =
       let own : row' ≡ row_of legs width = left ∙ ap (row_of legs) long in
-      (legs, (count, ratio, best), row_room legs row' width own long', put ∙ ap (λ xs. paste rows start xs width) own)
-  row_answered fits is long long' put (Ok None) (left, out) =
-      let own : row' ≡ row_of [] width = left ∙ ap (row_of []) long in
-      ([], (refl, out), omega arith, put ∙ ap (λ xs. paste rows start xs width) own)
-  row_answered fits is long long' put (Err why) (left, site, full, crowded) =
+      (legs, found, row_room legs row' width own long', put ∙ ap (λ xs. paste rows start xs width) own)
+  row_answered fits is long long' put (Err why) (site, full, crowded, left) =
       (site, full, crowded, put ∙ ap (λ xs. paste rows start xs width) left ∙ paste_back rows row start width fits is)
 
 -- an outcome at what equals its answer and the quote book that it leaves

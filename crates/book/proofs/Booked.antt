@@ -1,7 +1,7 @@
 -- Stores by what they hold.
 use Rattle.std.proofs.Common.{◌≡◌, ℕ, ◌*◌, List, set, Option, ap, ◌∙◌}
 use lib.Seq.{paste}
-use Rattle.routing.specs.Searching.{row_of}
+use Rattle.catalogue.specs.Asks.{row_of}
 use Rattle.cards.specs.declared.Card.{Card}
 use Rattle.cards.specs.Books.{Book, with_cards, with_card}
 use Rattle.book.specs.declared.QuoteBook.{QuoteBook}

@@ -1,5 +1,5 @@
 -- A quote book is as its calls make it.
-use Rattle.std.proofs.Common.{◌≡◌, ℕ, suc, zero, ◌*◌, ◌<◌, ◌≤◌, true, List, length, replicate, set, is_some, Some, None, Option, sym, refl, ap, ◌∙◌, subst, ⊎_elim, arith, length-set, get_or-set_other, get_or-set_same}
+use Rattle.std.proofs.Common.{◌≡◌, ℕ, suc, zero, ◌*◌, ◌<◌, ◌≤◌, List, length, replicate, set, Some, None, Option, sym, refl, ap, ◌∙◌, subst, ⊎_elim, arith, length-set, get_or-set_other, get_or-set_same}
 use lib.ListN.{length-replicate}
 use Rattle.std.proofs.lemmas.Bool.{cases_eq}
 use Rattle.measure.specs.Kind.{Kind}
@@ -7,12 +7,12 @@ use Rattle.catalogue.specs.Places.{at}
 use Rattle.catalogue.specs.Walks.{Holds}
 use Rattle.catalogue.specs.Routes.{Sound}
 use Rattle.catalogue.proofs.Short.{short}
-use Rattle.routing.specs.declared.Ask.{Ask}
-use Rattle.routing.specs.declared.Route.{Route}
+use Rattle.catalogue.specs.declared.routes.Ask.{Ask}
+use Rattle.catalogue.specs.declared.routes.Route.{Route}
 use Rattle.cards.specs.declared.Card.{Card}
 use Rattle.cards.specs.declared.MarkEvent.{MarkEvent}
 use Rattle.cards.specs.Books.{Network, leg_count, SoundCard, SoundBook}
-use Rattle.cards.specs.Calls.{Found}
+use Rattle.catalogue.specs.Routes.{Found}
 use Rattle.cards.proofs.Clearing.{some_same, none_some}
 use Rattle.doubt.specs.News.{after}
 
@@ -53,7 +53,7 @@ module _ {V L : Type 0} {K : Kind V L} {sites : ℕ} {cards : List (Option (Card
 
 -- what was found has fewer legs than there are sites
 pub found_few : {V L : Type 0} (K : Kind V L) (n : Network V) (ask : Ask L) (width : ℕ) → Sound K n.sites n.links → ask.source < n.sites → n.sites ≤ width →
-    (answer : Option (Route V)) (legs : List ℕ) → Found K n ask answer legs → leg_count answer < width
+    (answer : Option (Route V)) (legs : List ℕ) → Found K n.links ask answer legs → leg_count answer < width
 found_few K n ask width sound inside wide None legs f = omega arith
 found_few K n ask width sound inside wide (Some route) legs f =
     let best = f.2 in

@@ -6,13 +6,13 @@ use Rattle.report.specs.declared.Mark.{Mark}
 use Rattle.report.specs.declared.Refusal.{Refusal}
 use Rattle.report.specs.declared.Refusal.TheVariants.{LabelsFull}
 use Rattle.catalogue.specs.declared.Link.{Link}
-use Rattle.routing.specs.declared.Ask.{Ask}
-use Rattle.routing.specs.declared.Route.{Route}
-use Rattle.routing.specs.Searching.{row_of}
+use Rattle.catalogue.specs.declared.routes.Ask.{Ask}
+use Rattle.catalogue.specs.declared.routes.Route.{Route}
+use Rattle.catalogue.specs.Asks.{row_of}
 use Rattle.cards.specs.declared.Card.{Card}
 use Rattle.cards.specs.Books.{Network, Book, with_cards, with_card}
 use Rattle.cards.specs.Doubts.{Doubted}
-use Rattle.cards.specs.Calls.{Found, Overfull}
+use Rattle.catalogue.specs.Routes.{Found, Overfull}
 use Rattle.doubt.specs.declared.News.{News}
 use Rattle.doubt.specs.News.{rule_of}
 
@@ -27,13 +27,13 @@ card_of ask answer mark = record { ask = ask; answer = answer; mark = mark }
 -- the rows after routing, with the legs in the row that begins at the start place; a site that is full leaves them as they were
 abbrev pub RowAnswer : {V L : Type 0} → Kind V L → Network V → ℕ → Ask L → List ℕ → ℕ → ℕ → Result (Option (Route V)) Refusal → List ℕ → Type 0
 RowAnswer K n k ask rows start width (Ok answer) rows' =
-    (legs : List ℕ) × Found K n ask answer legs × (length legs ≤ width) × (rows' ≡ paste rows start (row_of legs width) width)
-RowAnswer K n k ask rows start width (Err why) rows' = (site : ℕ) × (why ≡ LabelsFull site) × Overfull K n ask k site × (rows' ≡ rows)
+    (legs : List ℕ) × Found K n.links ask answer legs × (length legs ≤ width) × (rows' ≡ paste rows start (row_of legs width) width)
+RowAnswer K n k ask rows start width (Err why) rows' = (site : ℕ) × (why ≡ LabelsFull site) × Overfull K n.links ask k site × (rows' ≡ rows)
 
 -- the quote book after routing for a card
 abbrev pub CardAnswer : {V L : Type 0} → Kind V L → Network V → ℕ → Ask L → Mark → Book V L → ℕ → Result (Option (Route V)) Refusal → Book V L → Type 0
-CardAnswer K n k ask mark b card (Ok answer) b' = (legs : List ℕ) × Found K n ask answer legs × (b' ≡ with_card b card (Some (card_of ask answer mark)) legs)
-CardAnswer K n k ask mark b card (Err why) b' = (site : ℕ) × (why ≡ LabelsFull site) × Overfull K n ask k site × (b' ≡ b)
+CardAnswer K n k ask mark b card (Ok answer) b' = (legs : List ℕ) × Found K n.links ask answer legs × (b' ≡ with_card b card (Some (card_of ask answer mark)) legs)
+CardAnswer K n k ask mark b card (Err why) b' = (site : ℕ) × (why ≡ LabelsFull site) × Overfull K n.links ask k site × (b' ≡ b)
 
 -- the quote book after news of a link, and how many of its cards went from standing to doubtful
 pub record Spread {V L : Type 0} (K : Kind V L) (news : News V) (b : Book V L) (count : ℕ) (b' : Book V L) : Type 0 where

@@ -3,20 +3,21 @@ ghost use Rattle.std.specs.Prelude.{◌≡◌, ◌+◌, ◌<◌, ◌≤◌, [], 
 ghost use Rattle.report.specs.declared.Refusal.TheVariants.{CardEmpty};
 ghost use Rattle.report.specs.Refusals.{topmost, unless, filled_or};
 ghost use Rattle.catalogue.specs.Places.{at};
-ghost use Rattle.routing.specs.Lent.{SameWorkspace};
+ghost use Rattle.routing.specs.Lent.{labels_of, SameWorkspace};
 ghost use Rattle.routing.specs.Searching.{route_causes};
 ghost use Rattle.cards.specs.Calls.{Emptied, differ, quote_causes, recheck_causes, Quoted, Rechecked};
 ghost use Rattle.book.specs.Stores.{network_of, book_of, SamePlaces};
+ghost use Rattle.catalogue.specs.Keeping.{sites_of};
 ghost use Rattle.book.specs.Answers.{network_with, RowAnswer, CardAnswer};
 
 use crate::entries::filled;
 use crate::{QuoteBook, write_place};
 use cards::{Card, MarkEvent};
-use catalogue::{Catalogue, Links};
+use catalogue::{Ask, Catalogue, Links, Route};
 use doubt::next_mark;
 use measure::Measure;
 use report::{Mark, Refusal};
-use routing::{Ask, Route, Workspace, check_ask, find_route, is_ill_sized};
+use routing::{Workspace, check_ask, find_route, is_ill_sized};
 
 // Whether the quote book is for as many sites as the catalogue has.
 pub fn check_sites<M: Measure>(
@@ -82,9 +83,9 @@ fn find_in_row<M: Measure, N: Links<M>>(
     width: usize,
 ) -> Result<Option<Route<M>>, Refusal>
     requires inside { start + width ≤ length rows.old }
-    requires free { topmost (route_causes M.Measure.kind (N.Links.span network.now) (length labels.old.slots.now) k ask width) ≡ None }
+    requires free { topmost (route_causes M.Measure.kind (N.Links.span network.now) (length (labels_of labels.old)) k ask width) ≡ None }
     ensures same { SameWorkspace labels.old labels.new }
-    ensures labels { Emptied M.Measure.kind labels.new.slots.now }
+    ensures labels { Emptied M.Measure.kind (labels_of labels.new) }
     ensures answer { RowAnswer M.Measure.kind (network_with (N.Links.span network.now) (N.Links.links network.now)) k ask rows.old start width result rows.new }
 {
     let row = &mut rows[start..start + width];
@@ -102,9 +103,9 @@ fn answer_card<M: Measure>(
     mark: Mark,
 ) -> Result<Option<Route<M>>, Refusal>
     requires inside { card < length book.old.cards.now }
-    requires free { topmost (route_causes M.Measure.kind catalogue.now.sites (length labels.old.slots.now) k ask (book_of book.old).width) ≡ None }
+    requires free { topmost (route_causes M.Measure.kind (sites_of catalogue.now) (length (labels_of labels.old)) k ask (book_of book.old).width) ≡ None }
     ensures same { SameWorkspace labels.old labels.new }
-    ensures labels { Emptied M.Measure.kind labels.new.slots.now }
+    ensures labels { Emptied M.Measure.kind (labels_of labels.new) }
     ensures answer { CardAnswer M.Measure.kind (network_of catalogue.now) k ask mark (book_of book.old) card result (book_of book.new) }
     ensures places { SamePlaces book.old book.new }
 {
@@ -125,7 +126,7 @@ pub fn quote<M: Measure>(
     ask: Ask<M::Limit>,
     k: usize,
 ) -> Result<Option<Route<M>>, Refusal>
-    ensures outcome { Quoted M.Measure.kind (network_of catalogue.now) (book_of book.old) labels.old.slots.now card ask k result (book_of book.new) labels.new.slots.now }
+    ensures outcome { Quoted M.Measure.kind (network_of catalogue.now) (book_of book.old) (labels_of labels.old) card ask k result (book_of book.new) (labels_of labels.new) }
     ensures places { SamePlaces book.old book.new }
     ensures same { SameWorkspace labels.old labels.new }
 {
@@ -143,7 +144,7 @@ pub fn recheck<M: Measure>(
     card: usize,
     k: usize,
 ) -> Result<Option<Route<M>>, Refusal>
-    ensures outcome { Rechecked M.Measure.kind (network_of catalogue.now) (book_of book.old) labels.old.slots.now card k result (book_of book.new) labels.new.slots.now }
+    ensures outcome { Rechecked M.Measure.kind (network_of catalogue.now) (book_of book.old) (labels_of labels.old) card k result (book_of book.new) (labels_of labels.new) }
     ensures places { SamePlaces book.old book.new }
     ensures same { SameWorkspace labels.old labels.new }
 {

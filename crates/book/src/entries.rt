@@ -9,10 +9,10 @@ ghost use Rattle.book.specs.Stores.{book_of, SamePlaces};
 
 use crate::{QuoteBook, front, row_of};
 use cards::Card;
+use catalogue::Route;
 use doubt::leg_count;
 use measure::Measure;
 use report::{Mark, Refusal};
-use routing::Route;
 
 // The card at a place that must be filled.
 pub(crate) fn filled<M: Measure>(

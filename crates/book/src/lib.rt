@@ -6,7 +6,7 @@ ghost use Rattle.std.proofs.Math.Seq.{paste};
 ghost use Rattle.catalogue.specs.Places.{at};
 ghost use Rattle.cards.specs.Books.{book_size_answer, opened_book, row_at};
 ghost use Rattle.cards.specs.Doubts.{uses};
-ghost use Rattle.routing.specs.Searching.{row_of as row_with};
+ghost use Rattle.catalogue.specs.Asks.{row_of as row_with};
 ghost use Rattle.std.proofs.Props.{props};
 ghost use Rattle.cards.specs.Books.{SoundBook};
 ghost use Rattle.book.specs.Sizes.{row_width};
@@ -100,7 +100,7 @@ fn clear_row(rows: &mut [u16], start: usize, width: usize)
 }
 
 impl<'a, M: Measure> QuoteBook<'a, M> {
-    ghost use Rattle.book.specs.Stores.{book_of, Begins};
+    ghost use Rattle.book.specs.Stores.{book_of, cards_lent, rows_lent, Begins};
 
     // Empties every card place and leaves the rows. The size is for `check_book_size` to refuse beforehand; this cannot refuse.
     #[tactic(auto, using(crate::proofs::Beginning::begins))]
@@ -111,8 +111,8 @@ impl<'a, M: Measure> QuoteBook<'a, M> {
     ) -> QuoteBook<'a, M>
         ensures book { book_of result ≡ opened_book (row_width sites (length cards.old) (length rows.old)) (length cards.old) rows.old }
         ensures begins { Begins M.Measure.kind sites (length cards.old) (length rows.old) (book_of result) }
-        ensures same_cards { result.cards.ghost_name ≡ cards.entry.ghost_name }
-        ensures same_rows { result.rows.ghost_name ≡ rows.entry.ghost_name }
+        ensures same_cards { cards_lent result ≡ cards.entry.ghost_name }
+        ensures same_rows { rows_lent result ≡ rows.entry.ghost_name }
     {
         let sites = row_width(sites, cards.len(), rows.len());
         empty_all(cards);

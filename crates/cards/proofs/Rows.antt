@@ -4,7 +4,7 @@ use lib.ListN.{length-replicate}
 use lib.Seq.{paste}
 use Rattle.std.proofs.lemmas.Slice.{put_mid-paste, take-put_mid_below, drop-put_mid, between-put_mid, between_is}
 use Rattle.std.proofs.lemmas.Bool.{cases_lt}
-use Rattle.routing.specs.Searching.{row_of}
+use Rattle.catalogue.specs.Asks.{row_of}
 use Rattle.cards.specs.Books.{row_at}
 
 -- a row has its length where the legs have room in it

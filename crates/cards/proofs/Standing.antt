@@ -15,12 +15,12 @@ use Rattle.catalogue.specs.Routes.{Sound}
 use Rattle.catalogue.proofs.Short.{short}
 use Rattle.labels.proofs.Cover.{goes_made}
 use Rattle.labels.proofs.Finding.{links_made}
-use Rattle.routing.specs.declared.Ask.{Ask}
-use Rattle.routing.specs.declared.Route.{Route}
-use Rattle.routing.specs.Searching.{row_of}
+use Rattle.catalogue.specs.declared.routes.Ask.{Ask}
+use Rattle.catalogue.specs.declared.routes.Route.{Route}
+use Rattle.catalogue.specs.Asks.{row_of}
 use Rattle.cards.specs.Books.{Network, legs_in}
 use Rattle.cards.specs.Doubts.{uses, same, threatens}
-use Rattle.cards.specs.Calls.{Found}
+use Rattle.catalogue.specs.Routes.{Found}
 use Rattle.cards.specs.Runs.{NoBetter}
 use Rattle.cards.proofs.Clearing.{some_same, none_some}
 use Rattle.cards.proofs.Walking.{goes_on, goes_back, unused, other_holds, holds_set}
@@ -47,14 +47,14 @@ pub record Stands {V L : Type 0} (K : Kind V L) (links : List (Option (Link V)))
 
 -- what was found stands, read back from its row, and has room in it
 module _ {V L : Type 0} (K : Kind V L) (n : Network V) (ask : Ask L) (width : ℕ) (sound : Sound K n.sites n.links) where
-  pub found_stands : (answer : Option (Route V)) (legs : List ℕ) → Found K n ask answer legs → Stands K n.links ask answer (legs_in (row_of legs width) answer)
+  pub found_stands : (answer : Option (Route V)) (legs : List ℕ) → Found K n.links ask answer legs → Stands K n.links ask answer (legs_in (row_of legs width) answer)
   found_stands None legs f = record { own = tt; beaten = f.1 }
   found_stands (Some route) legs f =
       let best = f.2 in
       subst (Stands K n.links ask (Some route)) (sym (take_at legs _ route.legs (sym f.0)))
       (record { own = record { walk = best.walk; within = best.within; ratio = f.1; count = f.0 }; beaten = best.first })
 
-  pub found_short : ask.source < n.sites → width ≡ n.sites → (answer : Option (Route V)) (legs : List ℕ) → Found K n ask answer legs → length legs ≤ width
+  pub found_short : ask.source < n.sites → width ≡ n.sites → (answer : Option (Route V)) (legs : List ℕ) → Found K n.links ask answer legs → length legs ≤ width
   found_short inside e None legs f = omega (arith, ap length f.0)
   found_short inside e (Some route) legs f =
       let best = f.2 in

@@ -7,8 +7,8 @@ use Rattle.report.specs.declared.Refusal.TheVariants.{QuoteBookSize}
 use Rattle.report.specs.Refusals.{topmost, unless}
 use Rattle.catalogue.specs.declared.Link.{Link}
 use Rattle.catalogue.specs.Places.{at}
-use Rattle.routing.specs.declared.Route.{Route}
-use Rattle.routing.specs.Searching.{row_of}
+use Rattle.catalogue.specs.declared.routes.Route.{Route}
+use Rattle.catalogue.specs.Asks.{row_of}
 use Rattle.cards.specs.declared.Card.{Card}
 
 -- a catalogue: how many sites there are, and the links by place

@@ -1,5 +1,5 @@
 -- The seven calls on a catalogue and its quote book: why each is refused, and all that it answers and leaves.
-use Rattle.std.specs.Prelude.{◌≡◌, ℕ, ◌+◌, Bool, false, not, ◌||◌, List, [], ◌∷◌, length, is_some, Some, None, Ok, Err, Option, Result, ◌==◌, nat_le, nat_lt, slice_set}
+use Rattle.std.specs.Prelude.{◌≡◌, ℕ, ◌+◌, Bool, not, List, [], ◌∷◌, length, is_some, Some, None, Ok, Err, Option, Result, ◌==◌, nat_le, nat_lt, slice_set}
 use Rattle.std.proofs.Math.Seq.{paste}
 use Rattle.measure.specs.Kind.{Kind}
 use Rattle.report.specs.declared.Mark.{Mark}
@@ -10,13 +10,13 @@ use Rattle.report.specs.Refusals.{topmost}
 use Rattle.catalogue.specs.declared.Link.{Link}
 use Rattle.catalogue.specs.Places.{at}
 use Rattle.catalogue.specs.Calls.{store_causes, replace_causes, remove_causes, revalued}
-use Rattle.catalogue.specs.Walks.{Holds}
-use Rattle.catalogue.specs.Routes.{Best, Outside, Crowded}
+use Rattle.catalogue.specs.Asks.{ends_out, limit_out}
+use Rattle.catalogue.specs.Routes.{Found, Overfull}
 use Rattle.labels.specs.declared.Slot.{Slot}
 use Rattle.labels.specs.Labels.{table, Frees}
-use Rattle.routing.specs.declared.Ask.{Ask}
-use Rattle.routing.specs.declared.Route.{Route}
-use Rattle.routing.specs.Searching.{ill_sized}
+use Rattle.catalogue.specs.declared.routes.Ask.{Ask}
+use Rattle.catalogue.specs.declared.routes.Route.{Route}
+use Rattle.labels.specs.Workspaces.{ill_sized}
 use Rattle.cards.specs.declared.Card.{Card}
 use Rattle.cards.specs.Books.{Network, Book, with_links, with_cards, with_card, leg_count, legs_at}
 use Rattle.cards.specs.Doubts.{Doubted, struck_by_offer, struck_by_change, struck_by_withdrawal}
@@ -47,18 +47,10 @@ change_causes K n b place value = differ n b ∷ replace_causes K n.links place 
 abbrev pub withdraw_causes : {V L : Type 0} → Network V → Book V L → ℕ → List (Bool × Refusal)
 withdraw_causes n b place = differ n b ∷ remove_causes n.links place
 
--- an end of what is asked is no site
-abbrev pub ends_out : {V L : Type 0} → Network V → Ask L → Bool
-ends_out n ask = nat_le n.sites ask.source || nat_le n.sites ask.destination
-
--- the limit of what is asked is not admitted
-abbrev pub limit_out : {V L : Type 0} → Kind V L → Ask L → Bool
-limit_out K ask = not (K.limit_admitted ask.limit)
-
 -- `room` is how many labels the workspace has
 abbrev pub quote_causes : {V L : Type 0} → Kind V L → Network V → Book V L → ℕ → ℕ → Ask L → ℕ → List (Bool × Refusal)
 quote_causes K n b room card ask k =
-    differ n b ∷ no_card b card ∷ (ends_out n ask, NoSuchSite) ∷ (limit_out K ask, LimitNotAdmitted) ∷ (is_some (at b.cards card), CardFilled)
+    differ n b ∷ no_card b card ∷ (ends_out n.sites ask, NoSuchSite) ∷ (limit_out K ask, LimitNotAdmitted) ∷ (is_some (at b.cards card), CardFilled)
     ∷ (ill_sized n.sites room k, WorkspaceSize) ∷ []
 
 -- why a recheck is refused: what the card was asked was right when it was filled, and is not looked at again
@@ -77,18 +69,6 @@ legs_of (Some card) = leg_count card.answer
 -- `room` is how many numbers the reply has
 abbrev pub read_causes : {V L : Type 0} → Book V L → ℕ → ℕ → ℕ → List (Bool × Refusal)
 read_causes b room card start = no_card b card ∷ card_empty b card ∷ (nat_lt room (start + legs_of (at b.cards card)), ReplyTooShort) ∷ []
-
--- What routing answers, where it is neither refused nor full. A route: the best walk, of these legs, with its number of legs, value and ratio.
--- None: no walk joins the ends within the limit.
-abbrev pub Found : {V L : Type 0} → Kind V L → Network V → Ask L → Option (Route V) → List ℕ → Type 0
-Found K n ask None legs = (legs ≡ []) × Outside K ask.limit (Holds n.links) ask.source ask.destination
-Found K n ask (Some route) legs =
-    (route.legs ≡ length legs) × (route.ratio ≡ K.ratio route.value ask.limit)
-    × Best K ask.limit (Holds n.links) ask.source ask.destination legs route.value
-
--- more walks lead to the site than its k labels can hold
-abbrev pub Overfull : {V L : Type 0} → Kind V L → Network V → Ask L → ℕ → ℕ → Type 0
-Overfull K n ask k site = Crowded K ask.limit (Holds n.links) k ask.source site
 
 -- a workspace with every label free
 abbrev pub Emptied : {V L : Type 0} → Kind V L → List (Slot V) → Type 0
@@ -126,9 +106,9 @@ pub data Withdrawn {V L : Type 0} (K : Kind V L) (n : Network V) (b : Book V L) 
 pub data Quoted {V L : Type 0} (K : Kind V L) (n : Network V) (b : Book V L) (labels : List (Slot V)) (card : ℕ) (ask : Ask L) (k : ℕ) : Result (Option (Route V)) Refusal → Book V L → List (Slot V) → Type 0 where
   quote_refused : (why : Refusal) → topmost (quote_causes K n b (length labels) card ask k) ≡ Some why → Quoted K n b labels card ask k (Err why) b labels
   quote_full : (site : ℕ) (labels' : List (Slot V)) → topmost (quote_causes K n b (length labels) card ask k) ≡ None →
-      Overfull K n ask k site → Emptied K labels' → Quoted K n b labels card ask k (Err (LabelsFull site)) b labels'
+      Overfull K n.links ask k site → Emptied K labels' → Quoted K n b labels card ask k (Err (LabelsFull site)) b labels'
   quoted : (answer : Option (Route V)) (legs : List ℕ) (labels' : List (Slot V)) → topmost (quote_causes K n b (length labels) card ask k) ≡ None →
-      Found K n ask answer legs → Emptied K labels' →
+      Found K n.links ask answer legs → Emptied K labels' →
       Quoted K n b labels card ask k (Ok answer) (with_card b card (Some (standing_card ask answer)) legs) labels'
 
 -- a recheck: likewise; a standing card is only looked at
@@ -137,10 +117,10 @@ pub data Rechecked {V L : Type 0} (K : Kind V L) (n : Network V) (b : Book V L) 
   still_standing : (it : Card V L) → topmost (recheck_causes n b (length labels) card k) ≡ None →
       at b.cards card ≡ Some it → it.mark ≡ Standing → Rechecked K n b labels card k (Ok it.answer) b labels
   recheck_full : (it : Card V L) (site : ℕ) (labels' : List (Slot V)) → topmost (recheck_causes n b (length labels) card k) ≡ None →
-      at b.cards card ≡ Some it → it.mark ≡ Doubtful → Overfull K n it.ask k site → Emptied K labels' →
+      at b.cards card ≡ Some it → it.mark ≡ Doubtful → Overfull K n.links it.ask k site → Emptied K labels' →
       Rechecked K n b labels card k (Err (LabelsFull site)) b labels'
   rechecked : (it : Card V L) (answer : Option (Route V)) (legs : List ℕ) (labels' : List (Slot V)) → topmost (recheck_causes n b (length labels) card k) ≡ None →
-      at b.cards card ≡ Some it → it.mark ≡ Doubtful → Found K n it.ask answer legs → Emptied K labels' →
+      at b.cards card ≡ Some it → it.mark ≡ Doubtful → Found K n.links it.ask answer legs → Emptied K labels' →
       Rechecked K n b labels card k (Ok answer) (with_card b card (Some (standing_card it.ask answer)) legs) labels'
 
 -- a discard: the answer, and the quote book afterwards

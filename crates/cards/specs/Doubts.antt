@@ -5,7 +5,7 @@ use Rattle.measure.specs.Ranks.{ranks}
 use Rattle.report.specs.declared.Mark.{Mark}
 use Rattle.report.specs.declared.Mark.TheVariants.{Standing, Doubtful}
 use Rattle.catalogue.specs.Places.{at}
-use Rattle.routing.specs.declared.Route.{Route}
+use Rattle.catalogue.specs.declared.routes.Route.{Route}
 use Rattle.cards.specs.declared.Card.{Card}
 use Rattle.cards.specs.declared.MarkEvent.{MarkEvent}
 use Rattle.cards.specs.declared.MarkEvent.TheVariants.{Struck, Spared, Answered}

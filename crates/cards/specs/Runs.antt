@@ -12,8 +12,8 @@ use Rattle.catalogue.specs.Places.{at}
 use Rattle.catalogue.specs.Walks.{Holds, Walk}
 use Rattle.catalogue.specs.Routes.{Outside, Crowded}
 use Rattle.labels.specs.declared.Slot.{Slot}
-use Rattle.routing.specs.declared.Ask.{Ask}
-use Rattle.routing.specs.declared.Route.{Route}
+use Rattle.catalogue.specs.declared.routes.Ask.{Ask}
+use Rattle.catalogue.specs.declared.routes.Route.{Route}
 use Rattle.cards.specs.declared.Call.{Call}
 use Rattle.cards.specs.declared.Call.TheVariants.{Offer, Change, Withdraw, Quote, Recheck, Discard, Read}
 use Rattle.cards.specs.declared.Answer.{Answer}

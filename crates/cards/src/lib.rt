@@ -2,9 +2,8 @@
 //! here: the mathematics stands below the code, so that a change of the code does not prove it again.
 #![tactic(auto)]
 
-use catalogue::Link;
+use catalogue::{Ask, Link, Route};
 use report::{Mark, Refusal};
-use routing::{Ask, Route};
 
 // What is kept of a line that was asked about: what was asked, the best route or that there is none, and how far that can be trusted.
 #[derive(Clone, Copy, PartialEq, Eq, Debug)]

@@ -1,8 +1,25 @@
--- What a call leaves of whose memory a catalogue is.
-use Rattle.std.specs.Prelude.{◌≡◌}
+-- What a catalogue holds, and in whose memory.
+use Rattle.std.specs.Prelude.{◌≡◌, ℕ, List, Option}
 use Rattle.catalogue.specs.declared.Catalogue.{Catalogue}
+use Rattle.catalogue.specs.declared.Link.{Link}
 
--- as many sites as before, and the places are the same memory, whatever they hold
+-- how many sites it has
+abbrev pub sites_of : {V L : Type 0} {g : _} → Catalogue V L g → ℕ
+sites_of c = c.sites
+
+-- the links by place
+abbrev pub links_of : {V L : Type 0} {g : _} → Catalogue V L g → List (Option (Link V))
+links_of c = c.links.now
+
+-- the memory that was lent for the places, by the name of the borrow: its lender reads there what they hold in the end
+abbrev pub places_of : {V L : Type 0} {g : _} → Catalogue V L g → ℕ
+places_of c = c.links.ghost_name
+
+-- the places are the same memory as before, whatever they hold
+abbrev pub SameLinks : {V L : Type 0} {g : _} → Catalogue V L g → Catalogue V L g → Type 0
+SameLinks was is = places_of is ≡ places_of was
+
+-- as many sites as before, and the same memory
 pub record Keeps {V L : Type 0} {g : _} (was is : Catalogue V L g) : Type 0 where
-  pub sites : is.sites ≡ was.sites
-  pub same : is.links.ghost_name ≡ was.links.ghost_name
+  pub sites : sites_of is ≡ sites_of was
+  pub same : SameLinks was is

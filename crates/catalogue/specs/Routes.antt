@@ -1,8 +1,10 @@
 -- What routing answers: the best walk, that there is none, or that a site has too many to hold.
-use Rattle.std.specs.Prelude.{true, ◌≡◌, ℕ, suc, ◌<◌, ◌≤◌, false, List, length, Option, ◌≢◌}
+use Rattle.std.specs.Prelude.{true, ◌≡◌, ℕ, suc, ◌<◌, ◌≤◌, false, List, [], length, Some, None, Option, ◌≢◌}
 use Rattle.measure.specs.Kind.{Kind}
 use Rattle.measure.specs.Ranks.{ranks}
 use Rattle.catalogue.specs.declared.Link.{Link}
+use Rattle.catalogue.specs.declared.routes.Ask.{Ask}
+use Rattle.catalogue.specs.declared.routes.Route.{Route}
 use Rattle.catalogue.specs.Walks.{Holds, Walk, Simple}
 
 -- a link that a catalogue of so many sites may hold: it joins two different sites, and its value is admitted
@@ -39,3 +41,15 @@ module _ {V L : Type 0} (K : Kind V L) (l : L) (Has : ℕ → ℕ → ℕ → V 
     pub value : ℕ → V
     pub walk : (i : ℕ) → i < suc k → (legs : List ℕ) × Walk K Has s legs t (value i) × (K.within (value i) l ≡ true)
     pub apart : (i j : ℕ) → i < suc k → j < suc k → (i ≢ j) → K.dominates (value i) (value j) ≡ false
+
+-- What is found for what is asked, among these links. A route: the best walk, of these legs, with its number of legs, value and ratio.
+-- None: no walk joins the ends within the limit.
+abbrev pub Found : {V L : Type 0} → Kind V L → List (Option (Link V)) → Ask L → Option (Route V) → List ℕ → Type 0
+Found K links ask None legs = (legs ≡ []) × Outside K ask.limit (Holds links) ask.source ask.destination
+Found K links ask (Some route) legs =
+    (route.legs ≡ length legs) × (route.ratio ≡ K.ratio route.value ask.limit)
+    × Best K ask.limit (Holds links) ask.source ask.destination legs route.value
+
+-- more walks lead from the source to the site, within the limit, than its k labels can hold
+abbrev pub Overfull : {V L : Type 0} → Kind V L → List (Option (Link V)) → Ask L → ℕ → ℕ → Type 0
+Overfull K links ask k site = Crowded K ask.limit (Holds links) k ask.source site

@@ -11,7 +11,10 @@ ghost use Rattle.std.proofs.Props.{props};
 use measure::Measure;
 use report::Refusal;
 
+pub mod routes;
 pub mod walks;
+
+pub use routes::{Ask, Route};
 
 // A directed link that can be rented, from one site to another.
 #[derive(Clone, Copy, PartialEq, Eq, Debug)]
@@ -144,11 +147,13 @@ fn remove_at<M: Measure>(links: &mut [Option<Link<M>>], place: usize) -> Result<
 }
 
 impl<'a, M: Measure> Catalogue<'a, M> {
+    ghost use Rattle.catalogue.specs.Keeping.{sites_of, links_of, places_of};
+
     // Empties every place. The size is for `check_size` to refuse beforehand; this cannot refuse, and of a size that is refused there are no sites.
     pub fn open(links: &'a mut [Option<Link<M>>], sites: usize) -> Catalogue<'a, M>
-        ensures links { result.links.now ≡ replicate (length links.old) None }
-        ensures sites { result.sites ≡ opened_sites sites (length links.old) }
-        ensures same { result.links.ghost_name ≡ links.entry.ghost_name }
+        ensures links { links_of result ≡ replicate (length links.old) None }
+        ensures sites { sites_of result ≡ opened_sites sites (length links.old) }
+        ensures same { places_of result ≡ links.entry.ghost_name }
     {
         let sites = opened_sites(sites, links.len());
         empty_all(links);
@@ -157,13 +162,13 @@ impl<'a, M: Measure> Catalogue<'a, M> {
 }
 
 impl<M: Measure> Catalogue<'_, M> {
-    ghost use Rattle.catalogue.specs.Keeping.{Keeps};
+    ghost use Rattle.catalogue.specs.Keeping.{sites_of, links_of, Keeps};
 
     // Puts the link at an empty place.
     #[tactic(auto, using(crate::proofs::Keeping::stores))]
     pub fn store(&mut self, place: usize, link: Link<M>) -> Result<(), Refusal>
-        ensures answer { result ≡ store_answer M.Measure.kind self.old.sites self.old.links.now place link }
-        ensures links { self.new.links.now ≡ stored M.Measure.kind self.old.sites self.old.links.now place link }
+        ensures answer { result ≡ store_answer M.Measure.kind (sites_of self.old) (links_of self.old) place link }
+        ensures links { links_of self.new ≡ stored M.Measure.kind (sites_of self.old) (links_of self.old) place link }
         ensures keeps { Keeps self.old self.new }
     {
         let sites = self.sites;
@@ -172,8 +177,8 @@ impl<M: Measure> Catalogue<'_, M> {
 
     // Gives the link at the place another value, and answers the link as it was.
     pub fn replace(&mut self, place: usize, value: M) -> Result<Link<M>, Refusal>
-        ensures answer { result ≡ replace_answer M.Measure.kind self.old.links.now place value }
-        ensures links { self.new.links.now ≡ replaced M.Measure.kind self.old.links.now place value }
+        ensures answer { result ≡ replace_answer M.Measure.kind (links_of self.old) place value }
+        ensures links { links_of self.new ≡ replaced M.Measure.kind (links_of self.old) place value }
         ensures keeps { Keeps self.old self.new }
     {
         replace_at(self.links, place, value)
@@ -181,8 +186,8 @@ impl<M: Measure> Catalogue<'_, M> {
 
     // Empties the place, and answers the link that stood there.
     pub fn remove(&mut self, place: usize) -> Result<Link<M>, Refusal>
-        ensures answer { result ≡ remove_answer self.old.links.now place }
-        ensures links { self.new.links.now ≡ removed self.old.links.now place }
+        ensures answer { result ≡ remove_answer (links_of self.old) place }
+        ensures links { links_of self.new ≡ removed (links_of self.old) place }
         ensures keeps { Keeps self.old self.new }
     {
         remove_at(self.links, place)
@@ -190,9 +195,11 @@ impl<M: Measure> Catalogue<'_, M> {
 }
 
 impl<M: Measure> Links<M> for Catalogue<'_, M> {
-    ghost links = { λ c. c.links.now };
+    ghost use Rattle.catalogue.specs.Keeping.{sites_of, links_of};
 
-    ghost span = { λ c. c.sites };
+    ghost links = { links_of };
+
+    ghost span = { sites_of };
 
     ghost sound = { λ c. c.sound };
 

@@ -8,9 +8,9 @@ ghost use Rattle.cards.specs.Doubts.{uses, threatens, next, strikes};
 ghost use Rattle.doubt.specs.News.{rule_of, struck_at, after, falls};
 
 use cards::{Card, MarkEvent};
+use catalogue::Route;
 use measure::{Measure, ranks_before};
 use report::Mark;
-use routing::Route;
 
 // What happened to the catalogue's links.
 #[derive(Clone, Copy, PartialEq, Eq, Debug)]

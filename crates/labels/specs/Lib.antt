@@ -1,3 +1,4 @@
 pub mod Labels
 pub mod Outgoing
 pub mod Tournament
+pub mod Workspaces

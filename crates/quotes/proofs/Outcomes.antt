@@ -1,10 +1,10 @@
 -- The outcomes of the calls on links, put together from what their parts say: the check of the sites, the change of the catalogue, and the
 -- spread of its news.
-use Rattle.std.proofs.Common.{◌≡◌, ℕ, Bool, List, [], ◌∷◌, set, Some, None, Ok, Err, Option, Result, is_ok, true, refl, sym, ap, ◌∙◌, subst}
+use Rattle.std.proofs.Common.{◌≡◌, ℕ, Bool, List, ◌∷◌, set, Some, None, Ok, Err, Option, Result, is_ok, true, refl, sym, ap, ◌∙◌, subst}
 use Rattle.measure.specs.Kind.{Kind}
 use Rattle.report.specs.declared.Refusal.{Refusal}
 use Rattle.report.specs.declared.Refusal.TheVariants.{LinkEmpty}
-use Rattle.report.specs.Refusals.{topmost, unless}
+use Rattle.report.specs.Refusals.{topmost}
 use Rattle.catalogue.specs.declared.Link.{Link}
 use Rattle.catalogue.specs.Places.{at}
 use Rattle.catalogue.specs.Calls.{store_causes, store_answer, stored, replace_causes, replace_answer, replaced, revalued, remove_causes, remove_answer, removed}

@@ -1,7 +1,8 @@
 //! The calls that change the catalogue's links, and put cards in doubt. They are functions of catalogue and quote book together, since
 //! neither owns the other.
 ghost use Rattle.cards.specs.Calls.{Offered, Changed, Withdrawn};
-ghost use Rattle.book.specs.Stores.{network_of, book_of, SameLinks, SamePlaces};
+ghost use Rattle.catalogue.specs.Keeping.{SameLinks};
+ghost use Rattle.book.specs.Stores.{network_of, book_of, SamePlaces};
 
 use book::{QuoteBook, check_sites, spread};
 use catalogue::{Catalogue, Link, Links};

@@ -1,16 +1,17 @@
 //! One call after the other: whatever the calls were, what a standing card says is so.
 ghost use Rattle.std.specs.Prelude.{◌≡◌};
 ghost use Rattle.cards.specs.Runs.{lent, Outcome, Continues};
-ghost use Rattle.routing.specs.Lent.{SameWorkspace};
-ghost use Rattle.book.specs.Stores.{memory_of, SameLinks, SamePlaces};
+ghost use Rattle.routing.specs.Lent.{labels_of, SameWorkspace};
+ghost use Rattle.catalogue.specs.Keeping.{SameLinks};
+ghost use Rattle.book.specs.Stores.{memory_of, SamePlaces};
 
 use crate::changes::{change, offer, withdraw};
 use book::{QuoteBook, discard, quote, read, recheck};
 use cards::{Answer, Call, Reply};
-use catalogue::Catalogue;
+use catalogue::{Catalogue, Route};
 use measure::Measure;
 use report::Mark;
-use routing::{Route, Workspace};
+use routing::Workspace;
 
 // What a quote or a recheck that was carried out answers: the card stands.
 fn standing<M: Copy>(answer: Option<Route<M>>) -> Answer<M>
@@ -30,7 +31,7 @@ fn carry_out<M: Measure>(
     reply: &mut [u16],
     call: Call<M, M::Limit>,
 ) -> Reply<M>
-    ensures outcome { Outcome M.Measure.kind (memory_of catalogue.old book.old) (lent labels.old.slots.now reply.old) call result (memory_of catalogue.new book.new) (lent labels.new.slots.now reply.new) }
+    ensures outcome { Outcome M.Measure.kind (memory_of catalogue.old book.old) (lent (labels_of labels.old) reply.old) call result (memory_of catalogue.new book.new) (lent (labels_of labels.new) reply.new) }
     ensures links { SameLinks catalogue.old catalogue.new }
     ensures places { SamePlaces book.old book.new }
     ensures labels { SameWorkspace labels.old labels.new }
@@ -71,7 +72,7 @@ pub fn perform<M: Measure>(
     reply: &mut [u16],
     call: Call<M, M::Limit>,
 ) -> Reply<M>
-    ensures outcome { Outcome M.Measure.kind (memory_of catalogue.old book.old) (lent labels.old.slots.now reply.old) call result (memory_of catalogue.new book.new) (lent labels.new.slots.now reply.new) }
+    ensures outcome { Outcome M.Measure.kind (memory_of catalogue.old book.old) (lent (labels_of labels.old) reply.old) call result (memory_of catalogue.new book.new) (lent (labels_of labels.new) reply.new) }
     ensures no_better_route { Continues M.Measure.kind (memory_of catalogue.old book.old) call result (memory_of catalogue.new book.new) }
     ensures links { SameLinks catalogue.old catalogue.new }
     ensures places { SamePlaces book.old book.new }

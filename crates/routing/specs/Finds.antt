@@ -11,18 +11,18 @@ use Rattle.labels.specs.declared.Slot.{Slot}
 use Rattle.labels.specs.Labels.{slot, table, Wins}
 use Rattle.labels.specs.Outgoing.{Listed}
 use Rattle.labels.specs.Tournament.{Noted}
-use Rattle.routing.specs.Searching.{row_of}
-use Rattle.routing.specs.declared.Ask.{Ask}
+use Rattle.catalogue.specs.Asks.{row_of}
+use Rattle.catalogue.specs.declared.routes.Ask.{Ask}
 
 -- the refusal names a site whose labels are full
-abbrev pub Overfull : {V L : Type 0} → Kind V L → L → List (Option (Link V)) → ℕ → ℕ → Refusal → Type 0
-Overfull K l cat k src why = (site : ℕ) × (why ≡ LabelsFull site) × Crowded K l (Holds cat) k src site
+abbrev pub IsFull : {V L : Type 0} → Kind V L → L → List (Option (Link V)) → ℕ → ℕ → Refusal → Type 0
+IsFull K l cat k src why = (site : ℕ) × (why ≡ LabelsFull site) × Crowded K l (Holds cat) k src site
 
 -- what the end of routing says, where the labels are those of A: the place of the first walk's label, or that no walk is within the limit
 abbrev pub EndsSo : {V L : Type 0} → Kind V L → L → List (Option (Link V)) → ℕ → ℕ → ℕ → (ℕ → Label V) → Result (Option ℕ) Refusal → Type 0
 EndsSo K l cat k src dst A (Ok (Some p)) = Wins K l cat k src dst A p
 EndsSo K l cat k src dst A (Ok None) = Outside K l (Holds cat) src dst
-EndsSo K l cat k src dst A (Err why) = Overfull K l cat k src why
+EndsSo K l cat k src dst A (Err why) = IsFull K l cat k src why
 
 -- the row has these legs, then zeros: a walk from s to t of the value w that comes by no site twice
 abbrev pub WroteLegs : {V L : Type 0} → Kind V L → List (Option (Link V)) → ℕ → ℕ → V → ℕ → List ℕ → ℕ → Type 0

@@ -1,8 +1,17 @@
--- What a search leaves of whose memory a workspace is.
-use Rattle.std.specs.Prelude.{◌≡◌, length}
+-- What a workspace holds, and in whose memory.
+use Rattle.std.specs.Prelude.{◌≡◌, ℕ, List, length}
+use Rattle.labels.specs.declared.Slot.{Slot}
 use Rattle.routing.specs.declared.lent.Workspace.{Workspace}
 
--- the places are the same memory, and as many
+-- the labels by place
+abbrev pub labels_of : {V L : Type 0} {g : _} → Workspace V L g → List (Slot V)
+labels_of w = w.slots.now
+
+-- the memory that was lent for the labels, by the name of the borrow
+abbrev pub memory_of : {V L : Type 0} {g : _} → Workspace V L g → ℕ
+memory_of w = w.slots.ghost_name
+
+-- the labels are the same memory as before, and as many
 pub record SameWorkspace {V L : Type 0} {g : _} (was is : Workspace V L g) : Type 0 where
-  pub same : is.slots.ghost_name ≡ was.slots.ghost_name
-  pub room : length is.slots.now ≡ length was.slots.now
+  pub same : memory_of is ≡ memory_of was
+  pub room : length (labels_of is) ≡ length (labels_of was)

@@ -7,7 +7,7 @@ ghost use Rattle.catalogue.specs.Routes.{Sound};
 ghost use Rattle.labels.specs.Labels.{is_held, is_queued, slot, table, In, Held, Waits, Settles, Adds, Swept, Steady, Offered, OffersNone, Opens, Rests, Wins, Fits, Frees, Starts};
 ghost use Rattle.labels.specs.Outgoing.{Listed};
 ghost use Rattle.labels.specs.Tournament.{Unused, Noted, SameUsed, SameLinks};
-ghost use Rattle.routing.specs.Finds.{Overfull, EndsSo, WroteLegs, Indexed};
+ghost use Rattle.routing.specs.Finds.{IsFull, EndsSo, WroteLegs, Indexed};
 ghost use Rattle.report.specs.declared.Refusal.TheVariants.{LabelsFull};
 
 use crate::outgoing::{first_link, link_after};
@@ -71,7 +71,7 @@ impl<M: Measure, N: Links<M>> Exploration<'_, M, N> {
         requires opens { Opens M.Measure.kind self.now.tournament.limit (N.Links.links self.now.network.now) self.now.tournament.k self.now.source self.now.destination (table M.Measure.kind slots.old) h site i }
         requires indexed { Indexed M.Measure.kind self.now.tournament.limit (N.Links.links self.now.network.now) slots.old self.now.tournament.k self.now.tournament.sites }
         ensures unused { Unused (table M.Measure.kind slots.new) (slot M.Measure.kind slots.new) self.now.tournament.k self.now.tournament.sites }
-        ensures opens { MatchResult result (λ _. Opens M.Measure.kind self.now.tournament.limit (N.Links.links self.now.network.now) self.now.tournament.k self.now.source self.now.destination (table M.Measure.kind slots.new) h site (i + 1) × Steady (table M.Measure.kind slots.old) (table M.Measure.kind slots.new) × Indexed M.Measure.kind self.now.tournament.limit (N.Links.links self.now.network.now) slots.new self.now.tournament.k self.now.tournament.sites) (Overfull M.Measure.kind self.now.tournament.limit (N.Links.links self.now.network.now) self.now.tournament.k self.now.source) }
+        ensures opens { MatchResult result (λ _. Opens M.Measure.kind self.now.tournament.limit (N.Links.links self.now.network.now) self.now.tournament.k self.now.source self.now.destination (table M.Measure.kind slots.new) h site (i + 1) × Steady (table M.Measure.kind slots.old) (table M.Measure.kind slots.new) × Indexed M.Measure.kind self.now.tournament.limit (N.Links.links self.now.network.now) slots.new self.now.tournament.k self.now.tournament.sites) (IsFull M.Measure.kind self.now.tournament.limit (N.Links.links self.now.network.now) self.now.tournament.k self.now.source) }
     {
         let Some(offer) = self.offered(slots, h, site, i) else {
             return Ok(());
@@ -101,7 +101,7 @@ impl<M: Measure, N: Links<M>> Exploration<'_, M, N> {
         requires opens { Opens M.Measure.kind self.now.tournament.limit (N.Links.links self.now.network.now) self.now.tournament.k self.now.source self.now.destination (table M.Measure.kind slots.old) h site 0 }
         requires indexed { Indexed M.Measure.kind self.now.tournament.limit (N.Links.links self.now.network.now) slots.old self.now.tournament.k self.now.tournament.sites }
         ensures unused { Unused (table M.Measure.kind slots.new) (slot M.Measure.kind slots.new) self.now.tournament.k self.now.tournament.sites }
-        ensures rests { MatchResult result (λ _. Rests M.Measure.kind self.now.tournament.limit (N.Links.links self.now.network.now) self.now.tournament.k self.now.source self.now.destination (table M.Measure.kind slots.new) × Steady (table M.Measure.kind slots.old) (table M.Measure.kind slots.new) × Indexed M.Measure.kind self.now.tournament.limit (N.Links.links self.now.network.now) slots.new self.now.tournament.k self.now.tournament.sites) (Overfull M.Measure.kind self.now.tournament.limit (N.Links.links self.now.network.now) self.now.tournament.k self.now.source) }
+        ensures rests { MatchResult result (λ _. Rests M.Measure.kind self.now.tournament.limit (N.Links.links self.now.network.now) self.now.tournament.k self.now.source self.now.destination (table M.Measure.kind slots.new) × Steady (table M.Measure.kind slots.old) (table M.Measure.kind slots.new) × Indexed M.Measure.kind self.now.tournament.limit (N.Links.links self.now.network.now) slots.new self.now.tournament.k self.now.tournament.sites) (IsFull M.Measure.kind self.now.tournament.limit (N.Links.links self.now.network.now) self.now.tournament.k self.now.source) }
     {
         let mut i = first_link(self.network, slots, site);
         while i < self.network.places() {

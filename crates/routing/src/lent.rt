@@ -15,10 +15,12 @@ pub struct Workspace<'a, M: Measure> {
 }
 
 impl<'a, M: Measure> Workspace<'a, M> {
+    ghost use Rattle.routing.specs.Lent.{labels_of, memory_of};
+
     // Frees every place.
     pub fn new(slots: &'a mut [Slot<M>]) -> Workspace<'a, M>
-        ensures slots { result.slots.now ≡ map freed slots.old }
-        ensures same { result.slots.ghost_name ≡ slots.entry.ghost_name }
+        ensures labels { labels_of result ≡ map freed slots.old }
+        ensures same { memory_of result ≡ slots.entry.ghost_name }
     {
         free_all(slots);
         Workspace { slots }
@@ -26,9 +28,11 @@ impl<'a, M: Measure> Workspace<'a, M> {
 }
 
 impl<M: Measure> Workspace<'_, M> {
+    ghost use Rattle.routing.specs.Lent.{labels_of};
+
     // How many places there are.
     pub fn room(&self) -> usize
-        ensures { result ≡ length self.now.slots.now }
+        ensures { result ≡ length (labels_of self.now) }
     {
         self.slots.len()
     }

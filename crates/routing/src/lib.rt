@@ -7,10 +7,11 @@ ghost use Rattle.labels.specs.Tournament.{Unused};
 ghost use Rattle.report.specs.Refusals.{topmost, unless};
 ghost use Rattle.labels.specs.Labels.{blank_slot, table, Frees, slot};
 ghost use Rattle.routing.specs.Finds.{Admits};
-ghost use Rattle.routing.specs.Lent.{SameWorkspace};
-ghost use Rattle.routing.specs.Searching.{ill_sized, ask_causes, route_causes, Answered, Searched};
+ghost use Rattle.routing.specs.Lent.{labels_of, SameWorkspace};
+ghost use Rattle.labels.specs.Workspaces.{ill_sized};
+ghost use Rattle.routing.specs.Searching.{ask_causes, route_causes, Answered, Searched};
 
-use catalogue::Links;
+use catalogue::{Ask, Links, Route};
 use exploration::Exploration;
 use labels::{Label, Slot, State};
 use measure::{Measure, Ratio};
@@ -26,22 +27,6 @@ mod scan;
 mod tournament;
 
 pub use lent::Workspace;
-
-// What is asked for: the first walk in rank from the source to the destination within the limit.
-#[derive(Clone, Copy, PartialEq, Eq, Debug)]
-pub struct Ask<L> {
-    pub source: u16,
-    pub destination: u16,
-    pub limit: L,
-}
-
-// A route: how many legs it has, its value, and the share of the limit that it uses up.
-#[derive(Clone, Copy, PartialEq, Eq, Debug)]
-pub struct Route<M> {
-    pub legs: usize,
-    pub ratio: Ratio,
-    pub value: M,
-}
 
 // A free place, to make a workspace of. No `Default`: the crate of labels has no code, and a value is empty by its kind.
 pub fn free_slot<M: Measure>() -> Slot<M>
@@ -181,7 +166,7 @@ pub fn find_route<M: Measure, N: Links<M>>(
     ask: Ask<M::Limit>,
     row: &mut [u16],
 ) -> Result<Option<Route<M>>, Refusal>
-    ensures searched { Searched M.Measure.kind (N.Links.span network.now) (N.Links.links network.now) k ask workspace.old.slots.now workspace.new.slots.now row.old row.new result }
+    ensures searched { Searched M.Measure.kind (N.Links.span network.now) (N.Links.links network.now) k ask (labels_of workspace.old) (labels_of workspace.new) row.old row.new result }
     ensures same { SameWorkspace workspace.old workspace.new }
 {
     find_checked(network, workspace.slots, k, ask, row)

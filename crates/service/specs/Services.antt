@@ -4,8 +4,9 @@ use Rattle.labels.specs.declared.Slot.{Slot}
 use Rattle.measure.specs.Products.{trunk_kind}
 use Rattle.cards.specs.declared.Call.{Call}
 use Rattle.cards.specs.Runs.{Reply, Memory, Lent, lent, Outcome}
-use Rattle.routing.specs.Lent.{SameWorkspace}
-use Rattle.book.specs.Stores.{memory_of, SameLinks, SamePlaces}
+use Rattle.routing.specs.Lent.{labels_of, SameWorkspace}
+use Rattle.catalogue.specs.Keeping.{SameLinks}
+use Rattle.book.specs.Stores.{memory_of, SamePlaces}
 use Rattle.service.specs.Serving.{TrunkValue, TrunkLimits}
 use Rattle.service.specs.declared.serving.Service.{Service}
 
@@ -15,7 +16,7 @@ memory_in s = memory_of s.catalogue.now s.book.now
 
 -- what is lent to a call
 abbrev pub lent_by : Service → Lent TrunkValue
-lent_by s = lent s.labels.now.slots.now s.reply.now
+lent_by s = lent (labels_of s.labels.now) s.reply.now
 
 -- How much is lent to each call: how many labels a site, and how many labels and numbers in all.
 pub record Room : Type 0 where
@@ -34,7 +35,7 @@ pub record Lends (room : Room) (l : Lent TrunkValue) : Type 0 where
 
 -- how much a service lends to each call
 abbrev pub room_in : Service → Room
-room_in s = room_of s.k s.labels.now.slots.now s.reply.now
+room_in s = room_of s.k (labels_of s.labels.now) s.reply.now
 
 -- a call of a service had this full outcome
 abbrev pub Performed : Service → Call TrunkValue TrunkLimits → Reply TrunkValue → Service → Type 0

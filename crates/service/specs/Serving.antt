@@ -7,7 +7,7 @@ use Rattle.catalogue.specs.declared.Link.{Link}
 use Rattle.records.specs.declared.Measures.{Measures}
 use Rattle.records.specs.declared.Record.{Record}
 use Rattle.records.specs.declared.Record.TheVariants as RecordVariants
-use Rattle.routing.specs.declared.Ask.{Ask}
+use Rattle.catalogue.specs.declared.routes.Ask.{Ask}
 use Rattle.cards.specs.declared.Call.{Call}
 use Rattle.cards.specs.declared.Call.TheVariants.{Offer, Change, Withdraw, Quote, Recheck, Discard, Read}
 use Rattle.cards.specs.declared.Answer.TheVariants.{Counted, Held}

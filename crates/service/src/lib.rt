@@ -6,12 +6,11 @@ ghost use Rattle.service.specs.declared.ServiceError.TheVariants as ServiceError
 ghost use Rattle.service.specs.Serving.{value_of, limit_of, call_of, card_read, printed};
 
 use cards::{Answer, Call, Reply};
-use catalogue::Link;
+use catalogue::{Ask, Link, Route};
 use line::Reply as Printed;
 use measure::pair::{Trunk, TrunkLimit, trunk_limits, trunk_value};
 use records::{Measures, Record};
 use report::Refusal;
-use routing::{Ask, Route};
 use std::alloc::AllocError;
 use std::io;
 use thiserror::Error;

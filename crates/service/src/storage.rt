@@ -1,6 +1,7 @@
 //! The memory of a program, and what becomes of an input that is served over it.
 ghost use Rattle.std.specs.Prelude.{◌≡◌, ◌≢◌, Err};
 ghost use Rattle.book.specs.Stores.{memory_of};
+ghost use Rattle.routing.specs.Lent.{labels_of};
 ghost use Rattle.service.specs.Services.{room_of};
 ghost use Rattle.service.specs.Input.{LentFor, ServesDay, PrintsInput};
 ghost use Rattle.service.specs.declared.ServiceError.TheVariants as ServiceErrors;
@@ -47,7 +48,7 @@ fn serve_day<'s, 'm, W: Write>(
     out: &mut W,
     feed: &[u8],
 ) -> Result<(), ServiceError>
-    ensures { ServesDay feed.now (room_of k labels.old.slots.now reply.old) (memory_of catalogue.old book.old) (W.Write.contents out.old) (W.Write.contents out.new) result }
+    ensures { ServesDay feed.now (room_of k (labels_of labels.old) reply.old) (memory_of catalogue.old book.old) (W.Write.contents out.old) (W.Write.contents out.new) result }
 {
     let mut service = Service {
         catalogue,

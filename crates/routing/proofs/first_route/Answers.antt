@@ -26,11 +26,13 @@ returns-clause-answered g c =
     let here = get_or_default c.explore.new.slots p c.index-slots-p.result (blank_slot K) (held_inside K c.explore.new.slots p held) in
     let (legs, row, count, walk, simple) = c.write_legs-legs.ensures in (
       legs,
+      (
+        count,
+        c.ratio-ratio.ensures,
+        subst (λ (y : Slot g.row.M.Denot). Best K e.tournament.limit (Holds (g.N.Links.links e.network.now)) e.source e.destination legs y.label.value) (sym here)
+            (record { walk = walk; simple = simple; within = (wins.rests.kept.fit p held).within; first = wins.first }),
+      ),
       row,
-      count,
-      c.ratio-ratio.ensures,
-      subst (λ (y : Slot g.row.M.Denot). Best K e.tournament.limit (Holds (g.N.Links.links e.network.now)) e.source e.destination legs y.label.value) (sym here)
-          (record { walk = walk; simple = simple; within = (wins.rests.kept.fit p held).within; first = wins.first }),
     )
 
 pub bounds-slots-p : goal.bounds-slots-p

@@ -2,8 +2,8 @@ use Rattle.std.proofs.Common.{arith, ℕ, ◌+◌, ◌*◌, ◌≤◌, length, S
 use lib.Seq.{paste}
 use Rattle.std.proofs.lemmas.Result.{err_from_is_err_and}
 use Rattle.report.specs.declared.Refusal.{Refusal}
-use Rattle.routing.specs.declared.Route.{Route}
-use Rattle.routing.specs.Searching.{row_of}
+use Rattle.catalogue.specs.declared.routes.Route.{Route}
+use Rattle.catalogue.specs.Asks.{row_of}
 use Rattle.cards.specs.Books.{Book}
 use Rattle.book.specs.Stores.{network_of, book_of}
 use Rattle.book.specs.Answers.{CardAnswer, card_of}

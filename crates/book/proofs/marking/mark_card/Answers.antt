@@ -3,7 +3,7 @@ use Rattle.catalogue.specs.Places.{at}
 use Rattle.cards.specs.declared.Card.{Card}
 use Rattle.cards.specs.declared.MarkEvent.{MarkEvent}
 use Rattle.cards.specs.Books.{Book}
-use Rattle.cards.specs.Doubts.{Rule, strikes, lapsed, fell, event_of, is_standing, marked, next}
+use Rattle.cards.specs.Doubts.{Rule, strikes, lapsed, fell, event_of, marked, next}
 use Rattle.doubt.specs.News.{rule_of, struck_in, struck_at, after, falls}
 use Rattle.book.specs.Stores.{book_of}
 use Rattle.book.proofs.Sounding.{sound_after}
@@ -45,5 +45,5 @@ invariant_of-book g c =
     let q = c.args.book.now in
     let place = c.args.place in
     let wrote = c.write_place.ensures ∙ ap (λ (x : Option (Card g.row.M.Denot g.row.M-Limit.Denot)). set q.cards.now place x)
-        (c.after_news.ensures ∙ ap (after c.if-is_struck.event) c.card-was.ensures) in
+    (c.after_news.ensures ∙ ap (after c.if-is_struck.event) c.card-was.ensures) in
     record { sound = sound_after q.sound place c.if-is_struck.event c.write_place.new.places c.requires wrote }

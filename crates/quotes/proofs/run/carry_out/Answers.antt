@@ -128,5 +128,5 @@ returns-in_ok-mark-in-Read g c = record {
   outcome = on_reading c.in-Read.is c.read.ensures (ap showing (sym c.in_ok-mark-in-Read.was));
   links = refl;
   places = (refl, refl);
-      labels = record { same = refl; room = refl };
+  labels = record { same = refl; room = refl };
 }

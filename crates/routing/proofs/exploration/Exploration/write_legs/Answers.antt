@@ -2,7 +2,7 @@ use Rattle.std.proofs.Common.{◌≡◌, ℕ, ◌-◌, ◌≤◌, List, ◌++◌
 use Rattle.std.proofs.lemmas.List.{append-nil, take_at, drop_all}
 use Rattle.labels.proofs.Tracing.{legs_long}
 use borrow.Rule.Slice.PartMut.{post_of}
-use Rattle.routing.specs.Searching.{row_of}
+use Rattle.catalogue.specs.Asks.{row_of}
 use Rattle.routing.proofs.exploration.Exploration.write_legs.Goals as goal
 
 -- legs in front, then zeros to the end
