@@ -1,6 +1,7 @@
 //! Records cut short by every length, unknown kinds, and measures past the last that is admitted.
 use crate::checks::check_at;
-use feed::{Measures, Reading, Record, read_record, write_record};
+use encoding::write_record;
+use feed::{Measures, Reading, Record, read_record};
 use report::Refusal;
 use std::process::Abort;
 

@@ -1,11 +1,10 @@
-//! A feed as bytes: reading its records one by one. The records are passed on from their own crate, and the calls that write them from
-//! the crate that does.
+//! A feed as bytes: reading its records one by one. The records are passed on from their own crate.
 //!
 //! A record is one byte of kind, and then a body whose length the kind fixes. Numbers are big-endian: places and sites have 16 bits,
 //! measures 32.
 //!
-//! By a rule of the project each kind has one slice pattern, with its kind byte, the named bytes of its fields and the rest, so that its layout
-//! stands there byte by byte: an offer and a quote, which differ in no more than names, stay two functions, and the kinds of one number four arms.
+//! Each kind has one slice pattern, with its kind byte, the named bytes of its fields and the rest, so that its layout stands there byte by
+//! byte: an offer and a quote, which differ in no more than names, stay two functions, and the kinds of one number four arms.
 #![tactic(auto)]
 
 ghost use Rattle.std.specs.Prelude.{◌≡◌, ℕ, ◌+◌, ◌-◌, ◌≤◌, length, drop, Some, slice_index};
@@ -15,7 +14,6 @@ ghost use Rattle.records.specs.Records.{records_from};
 ghost use Rattle.records.specs.Feed.{body_length, refusal_of, number32, reading_of, unread_of, Ahead};
 ghost use Rattle.records.specs.RoundTrip.{WritesBack, ReadsPart};
 
-pub use encoding::{put_bytes, write_record};
 pub use records::{Measures, Reading, Record};
 use report::Refusal;
 
@@ -238,7 +236,7 @@ fn part_from(input: &[u8], start: usize) -> &[u8]
 
 // What the feed holds at the start place, counted from 0, and the part of it that is still to be read: empty where there is no record.
 // The next start place is `input.len() - rest.len()`. A record that was read is written as the bytes that it was read from.
-// By a rule of the project the answer is the pair itself, in no Option or Result.
+// The answer is the pair itself, in no Option or Result, since the unread part goes with a refusal too.
 pub fn read_record(input: &[u8], start: usize) -> (Reading, &[u8])
     ensures reading { result.0 ≡ reading_of (drop start input.now) start }
     ensures rest { result.1.now ≡ unread_of (drop start input.now) }

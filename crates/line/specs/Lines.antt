@@ -2,6 +2,7 @@
 use Rattle.std.specs.Prelude.{ℕ, List, [], ◌∷◌, ◌++◌, map, length, codes, decimal}
 use Rattle.std.specs.List.{flat_map}
 use Rattle.measure.specs.declared.ratio.Ratio.{Ratio}
+use Rattle.measure.specs.Scalars.{number_of}
 use Rattle.report.specs.declared.Mark.{Mark}
 use Rattle.report.specs.declared.Mark.TheVariants.{Standing, Doubtful}
 use Rattle.report.specs.Refusals.{number as refusal_number, returned}
@@ -22,7 +23,7 @@ abbrev pub words : Reply → List ℕ → List (List ℕ)
 words (Counted n) legs = codes "ok" ∷ decimal n ∷ []
 words (Route mark ratio value) legs =
     codes "route" ∷ mark_word mark ∷ share ratio
-    ∷ decimal value.first.first.number ∷ decimal value.first.second.number ∷ decimal value.second.number
+    ∷ decimal (number_of value.first.first) ∷ decimal (number_of value.first.second) ∷ decimal (number_of value.second)
     ∷ decimal (length legs) ∷ map decimal legs
 words (NoRoute mark) legs = codes "none" ∷ mark_word mark ∷ []
 words (Refused why) legs = codes "refused" ∷ decimal (refusal_number why) ∷ map decimal (returned why)

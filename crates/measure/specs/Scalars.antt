@@ -27,17 +27,21 @@ pub record Joins (joined : ℕ → ℕ → ℕ) : Type 0 where
 abbrev pub scalar : {C : Type 0} → ℕ → Scalar C
 scalar n = record { number = min n over; joined_by = record {} }
 
--- the kind that joins numbers so
+-- the number of a value: 2,147,483,648 for over
+abbrev pub number_of : {C : Type 0} → Scalar C → ℕ
+number_of a = a.number
+
+-- the kind that joins numbers so; over is not admitted, and is within no limit, an unadmitted one included
 abbrev pub scalar_kind : {C : Type 0} → (ℕ → ℕ → ℕ) → Kind (Scalar C) ℕ
 scalar_kind joined = record {
-  admitted = λ a. nat_lt a.number over;
+  admitted = λ a. nat_lt (number_of a) over;
   limit_admitted = bounded_limit;
   empty = scalar 0;
-  join = λ a b. scalar (joined a.number b.number);
-  dominates = λ a b. nat_le a.number b.number;
-  before = λ a b. nat_lt a.number b.number;
-  within = λ a l. nat_le a.number l;
-  ratio = λ a l. ratio_of a.number l;
+  join = λ a b. scalar (joined (number_of a) (number_of b));
+  dominates = λ a b. nat_le (number_of a) (number_of b);
+  before = λ a b. nat_lt (number_of a) (number_of b);
+  within = λ a l. nat_lt (number_of a) over && nat_le (number_of a) l;
+  ratio = λ a l. ratio_of (number_of a) l;
 }
 
 -- a number that adds up, the code's alias `Sum`

@@ -1,6 +1,6 @@
 //! The two kinds whose values are single numbers: sums, and the worst of several.
 ghost use Rattle.std.specs.Prelude.{◌≡◌, ℕ, ◌+◌, min, max};
-ghost use Rattle.measure.specs.Scalars.{Joins, scalar, scalar_kind};
+ghost use Rattle.measure.specs.Scalars.{Joins, scalar, number_of, scalar_kind};
 ghost use Rattle.measure.specs.Numbers.{adding_joins, greater_joins, scalar_laws};
 
 use crate::{Measure, Ratio};
@@ -74,7 +74,7 @@ impl<C> Scalar<C> {
 
     // 2,147,483,648 for over.
     pub fn number(self) -> u32
-        ensures { result ≡ self.number }
+        ensures { result ≡ number_of self }
     {
         let Scalar { number, .. } = self;
         number
@@ -113,7 +113,7 @@ impl<C: Composition> Measure for Scalar<C> {
     }
 
     fn within(self, limit: u32) -> bool {
-        self.number <= limit
+        self.admitted() && self.number <= limit
     }
 
     fn ratio(self, limit: u32) -> Ratio {

@@ -3,7 +3,8 @@ use crate::difference::{Difference, ensure};
 use crate::lent::has_only;
 use crate::random::Random;
 use crate::tally::{Tally, count};
-use feed::{Measures, Reading, Record, read_record, write_record};
+use encoding::write_record;
+use feed::{Measures, Reading, Record, read_record};
 use report::Refusal;
 use std::array;
 

@@ -1,53 +1,49 @@
 -- What a refusal is called in print, and which of several causes is reported.
-use Rattle.std.specs.Prelude.{ℕ, Bool, cond, List, [], ◌∷◌, Some, None, Ok, Err, Option, Result}
+use Rattle.std.specs.Prelude.{ℕ, ◌<◌, ⊤, Bool, cond, List, [], ◌∷◌, Some, None, Ok, Err, Option, Result}
 use Rattle.report.specs.declared.Refusal.{Refusal}
 use Rattle.report.specs.declared.Refusal.TheVariants.{CatalogueSize, QuoteBookSize, SitesDiffer, NoSuchLink, NoSuchCard, NoSuchSite, EndsMeet, ValueNotAdmitted, LimitNotAdmitted, LinkTaken, LinkEmpty, CardFilled, CardEmpty, WorkspaceSize, ReplyTooShort, LabelsFull, UnknownKind, CutShort, BufferTooShort}
 use Rattle.report.specs.declared.Returned.{Returned}
 use Rattle.report.specs.declared.Returned.TheVariants.{Nothing, One, Two}
 
--- the number of each cause; of several causes that hold, the one with the smallest number is reported
+-- a row of the table: the number that is printed, the place from the top (rows lie ten apart, so that a later one finds room between two), and what is returned
+pub record Row : Type 0 where
+  pub number : ℕ
+  pub place : ℕ
+  pub returned : List ℕ
+
+-- the row of these three
+abbrev pub entry : ℕ → ℕ → List ℕ → Row
+entry n p values = record { number = n; place = p; returned = values }
+
+-- the table of refusals; of several causes that hold, the one whose place is nearest the top is reported
+abbrev pub row : Refusal → Row
+row CatalogueSize = entry 1 10 []
+row QuoteBookSize = entry 2 20 []
+row SitesDiffer = entry 3 30 []
+row NoSuchLink = entry 4 40 []
+row NoSuchCard = entry 5 50 []
+row NoSuchSite = entry 6 60 []
+row EndsMeet = entry 7 70 []
+row ValueNotAdmitted = entry 8 80 []
+row LimitNotAdmitted = entry 9 90 []
+row LinkTaken = entry 10 100 []
+row LinkEmpty = entry 11 110 []
+row CardFilled = entry 12 120 []
+row CardEmpty = entry 13 130 []
+row WorkspaceSize = entry 14 140 []
+row ReplyTooShort = entry 15 150 []
+row (LabelsFull site) = entry 16 160 (site ∷ [])
+row (UnknownKind place) = entry 17 170 (place ∷ [])
+row (CutShort place missing) = entry 18 180 (place ∷ missing ∷ [])
+row BufferTooShort = entry 19 190 []
+
+-- the number of each cause
 abbrev pub number : Refusal → ℕ
-number CatalogueSize = 1
-number QuoteBookSize = 2
-number SitesDiffer = 3
-number NoSuchLink = 4
-number NoSuchCard = 5
-number NoSuchSite = 6
-number EndsMeet = 7
-number ValueNotAdmitted = 8
-number LimitNotAdmitted = 9
-number LinkTaken = 10
-number LinkEmpty = 11
-number CardFilled = 12
-number CardEmpty = 13
-number WorkspaceSize = 14
-number ReplyTooShort = 15
-number (LabelsFull site) = 16
-number (UnknownKind place) = 17
-number (CutShort place missing) = 18
-number BufferTooShort = 19
+number why = (row why).number
 
 -- the numbers that are returned with it: the site; the place of the kind byte; that place and the bytes missing
 abbrev pub returned : Refusal → List ℕ
-returned CatalogueSize = []
-returned QuoteBookSize = []
-returned SitesDiffer = []
-returned NoSuchLink = []
-returned NoSuchCard = []
-returned NoSuchSite = []
-returned EndsMeet = []
-returned ValueNotAdmitted = []
-returned LimitNotAdmitted = []
-returned LinkTaken = []
-returned LinkEmpty = []
-returned CardFilled = []
-returned CardEmpty = []
-returned WorkspaceSize = []
-returned ReplyTooShort = []
-returned (LabelsFull site) = site ∷ []
-returned (UnknownKind place) = place ∷ []
-returned (CutShort place missing) = place ∷ missing ∷ []
-returned BufferTooShort = []
+returned why = (row why).returned
 
 -- the numbers as a list
 abbrev pub values : Returned → List ℕ
@@ -59,6 +55,12 @@ values (Two a b) = a ∷ b ∷ []
 abbrev pub topmost : List (Bool × Refusal) → Option Refusal
 topmost [] = None
 topmost (c ∷ cs) = cond c.0 (Some c.1) (topmost cs)
+
+-- the causes stand in the table's order: each further down than the one before it, so that none stands twice
+abbrev pub InOrder : List (Bool × Refusal) → Type 0
+InOrder [] = ⊤
+InOrder (c ∷ []) = ⊤
+InOrder (c ∷ d ∷ cs) = ((row c.1).place < (row d.1).place) × InOrder (d ∷ cs)
 
 -- what a call answers: the refusal, where a cause holds, and else this
 abbrev pub unless : {A : Type 0} → Option Refusal → Result A Refusal → Result A Refusal
