@@ -11,9 +11,9 @@ use Rattle.report.specs.declared.Refusal.{Refusal}
 use Rattle.report.specs.declared.Refusal.TheVariants.{CardEmpty, ReplyTooShort}
 use Rattle.report.specs.Refusals.{topmost, unless, filled_or}
 use Rattle.catalogue.specs.Places.{at}
-use Rattle.labels.specs.declared.Slot.{Slot}
 use Rattle.catalogue.specs.declared.routes.Ask.{Ask}
 use Rattle.catalogue.specs.declared.routes.Route.{Route}
+use Rattle.labels.specs.declared.Slot.{Slot}
 use Rattle.cards.specs.declared.Card.{Card}
 use Rattle.cards.specs.Books.{Network, Book, with_card, leg_count, legs_at}
 use Rattle.cards.specs.Calls.{Emptied, differ, quote_causes, Quoted, quote_refused, recheck_causes, Rechecked, recheck_refused, still_standing, discard_causes, Discarded, discard_refused, discarded, legs_of, Shown, read_refused, shown}

@@ -9,10 +9,10 @@ use Rattle.catalogue.specs.Routes.{Sound}
 use Rattle.catalogue.proofs.Short.{short}
 use Rattle.catalogue.specs.declared.routes.Ask.{Ask}
 use Rattle.catalogue.specs.declared.routes.Route.{Route}
+use Rattle.catalogue.specs.Routes.{Found}
 use Rattle.cards.specs.declared.Card.{Card}
 use Rattle.cards.specs.declared.MarkEvent.{MarkEvent}
 use Rattle.cards.specs.Books.{Network, leg_count, SoundCard, SoundBook}
-use Rattle.catalogue.specs.Routes.{Found}
 use Rattle.cards.proofs.Clearing.{some_same, none_some}
 use Rattle.doubt.specs.News.{after}
 

@@ -9,10 +9,10 @@ use Rattle.catalogue.specs.declared.Link.{Link}
 use Rattle.catalogue.specs.declared.routes.Ask.{Ask}
 use Rattle.catalogue.specs.declared.routes.Route.{Route}
 use Rattle.catalogue.specs.Asks.{row_of}
+use Rattle.catalogue.specs.Routes.{Found, Overfull}
 use Rattle.cards.specs.declared.Card.{Card}
 use Rattle.cards.specs.Books.{Network, Book, with_cards, with_card}
 use Rattle.cards.specs.Doubts.{Doubted}
-use Rattle.catalogue.specs.Routes.{Found, Overfull}
 use Rattle.doubt.specs.declared.News.{News}
 use Rattle.doubt.specs.News.{rule_of}
 

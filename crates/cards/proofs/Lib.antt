@@ -4,3 +4,4 @@ pub mod Walking
 pub mod Standing
 pub mod Keeping
 pub mod Promising
+pub mod Ordering

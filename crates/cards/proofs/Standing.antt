@@ -13,14 +13,14 @@ use Rattle.catalogue.specs.Calls.{revalued}
 use Rattle.catalogue.specs.Walks.{Holds, Walk}
 use Rattle.catalogue.specs.Routes.{Sound}
 use Rattle.catalogue.proofs.Short.{short}
-use Rattle.labels.proofs.Cover.{goes_made}
-use Rattle.labels.proofs.Finding.{links_made}
 use Rattle.catalogue.specs.declared.routes.Ask.{Ask}
 use Rattle.catalogue.specs.declared.routes.Route.{Route}
 use Rattle.catalogue.specs.Asks.{row_of}
+use Rattle.catalogue.specs.Routes.{Found}
+use Rattle.labels.proofs.Cover.{goes_made}
+use Rattle.labels.proofs.Finding.{links_made}
 use Rattle.cards.specs.Books.{Network, legs_in}
 use Rattle.cards.specs.Doubts.{uses, same, threatens}
-use Rattle.catalogue.specs.Routes.{Found}
 use Rattle.cards.specs.Runs.{NoBetter}
 use Rattle.cards.proofs.Clearing.{some_same, none_some}
 use Rattle.cards.proofs.Walking.{goes_on, goes_back, unused, other_holds, holds_set}

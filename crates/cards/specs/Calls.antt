@@ -12,16 +12,16 @@ use Rattle.catalogue.specs.Places.{at}
 use Rattle.catalogue.specs.Calls.{store_causes, replace_causes, remove_causes, revalued}
 use Rattle.catalogue.specs.Asks.{ends_out, limit_out}
 use Rattle.catalogue.specs.Routes.{Found, Overfull}
-use Rattle.labels.specs.declared.Slot.{Slot}
-use Rattle.labels.specs.Labels.{table, Frees}
 use Rattle.catalogue.specs.declared.routes.Ask.{Ask}
 use Rattle.catalogue.specs.declared.routes.Route.{Route}
+use Rattle.labels.specs.declared.Slot.{Slot}
+use Rattle.labels.specs.Labels.{table, Frees}
 use Rattle.labels.specs.Workspaces.{ill_sized}
 use Rattle.cards.specs.declared.Card.{Card}
 use Rattle.cards.specs.Books.{Network, Book, with_links, with_cards, with_card, leg_count, legs_at}
 use Rattle.cards.specs.Doubts.{Doubted, struck_by_offer, struck_by_change, struck_by_withdrawal}
 
--- Why a call is refused: its causes in the order of their numbers, each with whether it holds. The topmost that holds is reported.
+-- Why a call is refused: its causes in the order of the table of refusals, each with whether it holds. The topmost that holds is reported.
 
 -- the quote book and the catalogue differ in their number of sites
 abbrev pub differ : {V L : Type 0} → Network V → Book V L → Bool × Refusal

@@ -1,5 +1,5 @@
 -- Histories of calls on a catalogue and its quote book, and what holds after each.
-use Rattle.std.specs.Prelude.{true, ◌≡◌, ℕ, false, cond, List, [], ◌∷◌, ◌++◌, length, take, drop, replicate, Some, None, Ok, Err, Option, Result, ◌==◌, slice_set}
+use Rattle.std.specs.Prelude.{true, ◌≡◌, ℕ, Bool, false, cond, List, [], ◌∷◌, ◌++◌, length, take, drop, replicate, Some, None, Ok, Err, Option, Result, ◌==◌, slice_set}
 use Rattle.measure.specs.Kind.{Kind}
 use Rattle.measure.specs.Ratios.{AtMost, equal}
 use Rattle.report.specs.declared.Mark.{Mark}
@@ -11,15 +11,15 @@ use Rattle.catalogue.specs.Calls.{size_answer, revalued}
 use Rattle.catalogue.specs.Places.{at}
 use Rattle.catalogue.specs.Walks.{Holds, Walk}
 use Rattle.catalogue.specs.Routes.{Outside, Crowded}
-use Rattle.labels.specs.declared.Slot.{Slot}
 use Rattle.catalogue.specs.declared.routes.Ask.{Ask}
 use Rattle.catalogue.specs.declared.routes.Route.{Route}
+use Rattle.labels.specs.declared.Slot.{Slot}
 use Rattle.cards.specs.declared.Call.{Call}
 use Rattle.cards.specs.declared.Call.TheVariants.{Offer, Change, Withdraw, Quote, Recheck, Discard, Read}
 use Rattle.cards.specs.declared.Answer.{Answer}
 use Rattle.cards.specs.declared.Answer.TheVariants.{Counted, Held}
 use Rattle.cards.specs.Books.{Network, Book, book_size_answer, opened_network, opened_book, leg_count}
-use Rattle.cards.specs.Calls.{Offered, Changed, Withdrawn, Quoted, Rechecked, Discarded, Shown}
+use Rattle.cards.specs.Calls.{offer_causes, change_causes, withdraw_causes, quote_causes, recheck_causes, discard_causes, read_causes, Offered, Changed, Withdrawn, Quoted, Rechecked, Discarded, Shown}
 
 -- a catalogue and its quote book
 pub record Memory (V L : Type 0) : Type 0 where
@@ -62,6 +62,16 @@ pub record Lent (V : Type 0) : Type 0 where
 -- these labels and these numbers, lent to one call
 abbrev pub lent : {V : Type 0} → List (Slot V) → List ℕ → Lent V
 lent labels reply = record { labels = labels; reply = reply }
+
+-- why a call, whichever it is, is refused before it begins: its causes, each with whether it holds
+abbrev pub causes_of : {V L : Type 0} → Kind V L → Memory V L → Lent V → Call V L → List (Bool × Refusal)
+causes_of K m l (Offer place link) = offer_causes K m.network m.book place link
+causes_of K m l (Change place value) = change_causes K m.network m.book place value
+causes_of K m l (Withdraw place) = withdraw_causes m.network m.book place
+causes_of K m l (Quote card ask k) = quote_causes K m.network m.book (length l.labels) card ask k
+causes_of K m l (Recheck card k) = recheck_causes m.network m.book (length l.labels) card k
+causes_of K m l (Discard card) = discard_causes m.book card
+causes_of K m l (Read card start) = read_causes m.book (length l.reply) card start
 
 -- The full outcome of a call, whichever it is: what it answers, and the memory and what was lent afterwards.
 pub data Outcome {V L : Type 0} (K : Kind V L) (m : Memory V L) (l : Lent V) : Call V L → Reply V → Memory V L → Lent V → Type 0 where

@@ -4,9 +4,9 @@ use Rattle.measure.specs.Kind.{Kind}
 use Rattle.report.specs.declared.Mark.{Mark}
 use Rattle.report.specs.declared.Refusal.{Refusal}
 use Rattle.catalogue.specs.declared.Link.{Link}
-use Rattle.labels.specs.declared.Slot.{Slot}
 use Rattle.catalogue.specs.declared.routes.Ask.{Ask}
 use Rattle.catalogue.specs.declared.routes.Route.{Route}
+use Rattle.labels.specs.declared.Slot.{Slot}
 use Rattle.cards.specs.declared.Call.{Call}
 use Rattle.cards.specs.declared.Call.TheVariants.{Offer, Change, Withdraw, Quote, Recheck, Discard, Read}
 use Rattle.cards.specs.Books.{Network, Book}

@@ -1,6 +1,7 @@
 //! One call after the other: whatever the calls were, what a standing card says is so.
 ghost use Rattle.std.specs.Prelude.{◌≡◌};
-ghost use Rattle.cards.specs.Runs.{lent, Outcome, Continues};
+ghost use Rattle.report.specs.Refusals.{InOrder};
+ghost use Rattle.cards.specs.Runs.{lent, causes_of, Outcome, Continues};
 ghost use Rattle.routing.specs.Lent.{labels_of, SameWorkspace};
 ghost use Rattle.catalogue.specs.Keeping.{SameLinks};
 ghost use Rattle.book.specs.Stores.{memory_of, SamePlaces};
@@ -73,6 +74,7 @@ pub fn perform<M: Measure>(
     call: Call<M, M::Limit>,
 ) -> Reply<M>
     ensures outcome { Outcome M.Measure.kind (memory_of catalogue.old book.old) (lent (labels_of labels.old) reply.old) call result (memory_of catalogue.new book.new) (lent (labels_of labels.new) reply.new) }
+    ensures causes_in_order { InOrder (causes_of M.Measure.kind (memory_of catalogue.old book.old) (lent (labels_of labels.old) reply.old) call) }
     ensures no_better_route { Continues M.Measure.kind (memory_of catalogue.old book.old) call result (memory_of catalogue.new book.new) }
     ensures links { SameLinks catalogue.old catalogue.new }
     ensures places { SamePlaces book.old book.new }

@@ -5,10 +5,10 @@ use Rattle.measure.specs.Kind.{Kind}
 use Rattle.report.specs.declared.Refusal.{Refusal}
 use Rattle.report.specs.Refusals.{topmost, unless}
 use Rattle.catalogue.specs.declared.Link.{Link}
-use Rattle.labels.specs.declared.Slot.{Slot}
-use Rattle.labels.specs.Labels.{table, Frees}
 use Rattle.catalogue.specs.declared.routes.Ask.{Ask}
 use Rattle.catalogue.specs.declared.routes.Route.{Route}
+use Rattle.labels.specs.declared.Slot.{Slot}
+use Rattle.labels.specs.Labels.{table, Frees}
 use Rattle.routing.specs.Finds.{Admits}
 use Rattle.routing.specs.Searching.{route_causes, Answered, Searched}
 

@@ -6,13 +6,13 @@ use Rattle.report.specs.declared.Refusal.TheVariants.{LabelsFull}
 use Rattle.catalogue.specs.declared.Link.{Link}
 use Rattle.catalogue.specs.Walks.{Holds, Walk, Simple}
 use Rattle.catalogue.specs.Routes.{Outside, Crowded}
+use Rattle.catalogue.specs.Asks.{row_of}
+use Rattle.catalogue.specs.declared.routes.Ask.{Ask}
 use Rattle.labels.specs.declared.Label.{Label}
 use Rattle.labels.specs.declared.Slot.{Slot}
 use Rattle.labels.specs.Labels.{slot, table, Wins}
 use Rattle.labels.specs.Outgoing.{Listed}
 use Rattle.labels.specs.Tournament.{Noted}
-use Rattle.catalogue.specs.Asks.{row_of}
-use Rattle.catalogue.specs.declared.routes.Ask.{Ask}
 
 -- the refusal names a site whose labels are full
 abbrev pub IsFull : {V L : Type 0} → Kind V L → L → List (Option (Link V)) → ℕ → ℕ → Refusal → Type 0

@@ -4,7 +4,7 @@
 ghost use Rattle.std.specs.Prelude.{◌≡◌, ◌*◌, ◌≤◌, length, Ok};
 ghost use Rattle.labels.specs.Outgoing.{Listed};
 ghost use Rattle.labels.specs.Tournament.{Unused};
-ghost use Rattle.report.specs.Refusals.{topmost, unless};
+ghost use Rattle.report.specs.Refusals.{topmost, unless, InOrder};
 ghost use Rattle.labels.specs.Labels.{blank_slot, table, Frees, slot};
 ghost use Rattle.routing.specs.Finds.{Admits};
 ghost use Rattle.routing.specs.Lent.{labels_of, SameWorkspace};
@@ -167,6 +167,7 @@ pub fn find_route<M: Measure, N: Links<M>>(
     row: &mut [u16],
 ) -> Result<Option<Route<M>>, Refusal>
     ensures searched { Searched M.Measure.kind (N.Links.span network.now) (N.Links.links network.now) k ask (labels_of workspace.old) (labels_of workspace.new) row.old row.new result }
+    ensures causes_in_order { InOrder (route_causes M.Measure.kind (N.Links.span network.now) (length (labels_of workspace.old)) k ask (length row.old)) }
     ensures same { SameWorkspace workspace.old workspace.new }
 {
     find_checked(network, workspace.slots, k, ask, row)
