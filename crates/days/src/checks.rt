@@ -7,7 +7,7 @@ use measure::pair::Trunk;
 use measure::{Measure, Ratio};
 use quotes::{QuoteBook, change, discard, offer, perform, quote, read, recheck, withdraw};
 use report::Mark;
-use routing::{Ask, free_slot};
+use routing::{Ask, Workspace};
 use std::alloc::{AllocError, Allocator};
 use std::fmt::Debug;
 use std::process::Abort;
@@ -24,7 +24,7 @@ pub(crate) struct Sizes {
     pub book: Option<(usize, usize)>,
 }
 
-// The memory that a day lends: its rows have a number for each card and site.
+// The memory that a day lends: its rows have a number for each card and site, or as many as the quote book is made for, if those are more.
 #[derive(Drop)]
 pub(crate) struct Memory<M, L, A: Allocator> {
     pub sizes: Sizes,
@@ -37,10 +37,10 @@ pub(crate) struct Memory<M, L, A: Allocator> {
 
 // A catalogue and its quote book, and what is lent to their calls.
 #[derive(Drop)]
-pub(crate) struct Day<'a, M, L> {
+pub(crate) struct Day<'a, M: Measure> {
     pub catalogue: Catalogue<'a, M>,
-    pub book: QuoteBook<'a, M, L>,
-    pub labels: &'a mut [Slot<M>],
+    pub book: QuoteBook<'a, M>,
+    pub workspace: Workspace<'a, M>,
     pub reply: &'a mut [u16],
 }
 
@@ -64,11 +64,49 @@ pub(crate) fn check_numbers(rt: &impl Abort, came: &[u16], want: &[u16]) {
 }
 
 // So many of the value.
-fn filled<T: Copy, R: Alloc>(rt: &R, value: T, length: usize) -> Result<Vec<T, R::A>, AllocError> {
+pub(crate) fn filled<T: Copy, R: Alloc>(
+    rt: &R,
+    value: T,
+    length: usize,
+) -> Result<Vec<T, R::A>, AllocError> {
     vec![in rt.alloc(); value; length]
 }
 
-// Memory of these sizes: each row number is 7, each of the reply 9, and each label free.
+// How many row numbers the memory of these sizes has.
+pub(crate) fn row_numbers(sizes: Sizes) -> usize {
+    let own = sizes.cards.saturating_mul(sizes.sites);
+    match sizes.book {
+        Some((_, numbers)) => own.max(numbers),
+        None => own,
+    }
+}
+
+// A place as no call leaves it, with notes that lead nowhere.
+fn used_slot<M: Measure>() -> Slot<M> {
+    Slot {
+        label: Label {
+            state: State::Settled,
+            value: M::empty(),
+            previous: 5,
+            link: 6,
+        },
+        share: Ratio { top: 9, bottom: 0 },
+        winner: 60000,
+        best: 60001,
+        used: 60002,
+        first: 60003,
+        next: 60004,
+    }
+}
+
+// Each of the labels is free.
+fn check_free<M: Measure>(rt: &impl Abort, labels: &[Slot<M>]) {
+    for &slot in labels {
+        check_same(rt, slot.label.state, State::Free);
+    }
+}
+
+// Memory of these sizes: each row number is 7, each of the reply 9, and no label free.
 pub(crate) fn lend<M: Measure, R: Alloc>(
     rt: &R,
     sizes: Sizes,
@@ -77,8 +115,8 @@ pub(crate) fn lend<M: Measure, R: Alloc>(
         sizes,
         places: filled(rt, None, sizes.places)?,
         cards: filled(rt, None, sizes.cards)?,
-        rows: filled(rt, 7, sizes.cards.saturating_mul(sizes.sites))?,
-        labels: filled(rt, free_slot::<M>(), sizes.labels)?,
+        rows: filled(rt, 7, row_numbers(sizes))?,
+        labels: filled(rt, used_slot::<M>(), sizes.labels)?,
         reply: filled(rt, 9, sizes.reply)?,
     })
 }
@@ -88,13 +126,13 @@ pub(crate) fn open_book<'a, M: Measure>(
     cards: &'a mut [Option<Card<M, M::Limit>>],
     rows: &'a mut [u16],
     sites: usize,
-) -> QuoteBook<'a, M, M::Limit> {
+) -> QuoteBook<'a, M> {
     QuoteBook::open(cards, rows, sites)
 }
 
 impl<M: Measure, A: Allocator> Memory<M, M::Limit, A> {
     // A day in this memory.
-    pub(crate) fn open(&mut self) -> Day<'_, M, M::Limit> {
+    pub(crate) fn open(&mut self) -> Day<'_, M> {
         let length = self.rows.len();
         let own_sites = self.sizes.sites;
         let (sites, numbers) = self.sizes.book.unwrap_or((own_sites, length));
@@ -102,27 +140,27 @@ impl<M: Measure, A: Allocator> Memory<M, M::Limit, A> {
         Day {
             catalogue: Catalogue::open(&mut self.places, own_sites),
             book: open_book(&mut self.cards, rows, sites),
-            labels: &mut self.labels,
+            workspace: Workspace::new(&mut self.labels),
             reply: &mut self.reply,
         }
     }
 }
 
-// What is told of a card after a recheck with these labels.
+// What is told of a card after a recheck in this workspace.
 fn rechecked<M: Measure>(
     network: &Catalogue<'_, M>,
-    book: &mut QuoteBook<'_, M, M::Limit>,
-    labels: &mut [Slot<M>],
+    book: &mut QuoteBook<'_, M>,
+    workspace: &mut Workspace<'_, M>,
     card: usize,
     k: usize,
 ) -> Reply<M> {
-    let answer = recheck(network, book, labels, card, k)?;
+    let answer = recheck(network, book, workspace, card, k)?;
     held(Mark::Standing, answer)
 }
 
 // What is told of a card when its row is read into these numbers.
 fn read_into<M: Measure>(
-    book: &QuoteBook<'_, M, M::Limit>,
+    book: &QuoteBook<'_, M>,
     card: usize,
     numbers: &mut [u16],
     start: usize,
@@ -131,11 +169,11 @@ fn read_into<M: Measure>(
     held(mark, answer)
 }
 
-impl<M: Measure> Day<'_, M, M::Limit> {
+impl<M: Measure> Day<'_, M> {
     // What the call answers by way of all calls.
     fn answer(&mut self, call: Call<M, M::Limit>) -> Reply<M> {
         let (network, book) = (&mut self.catalogue, &mut self.book);
-        perform(network, book, self.labels, self.reply, call)
+        perform(network, book, &mut self.workspace, self.reply, call)
     }
 
     // What an offer counts, by its own function.
@@ -164,7 +202,8 @@ impl<M: Measure> Day<'_, M, M::Limit> {
 
     // What is told of a card that is quoted.
     fn quoted(&mut self, card: usize, ask: Ask<M::Limit>, k: usize) -> Reply<M> {
-        let answer = quote(&self.catalogue, &mut self.book, self.labels, card, ask, k)?;
+        let (network, book) = (&self.catalogue, &mut self.book);
+        let answer = quote(network, book, &mut self.workspace, card, ask, k)?;
         held(Mark::Standing, answer)
     }
 
@@ -176,7 +215,13 @@ impl<M: Measure> Day<'_, M, M::Limit> {
             Call::Withdraw { place } => self.withdrawn(place),
             Call::Quote { card, ask, k } => self.quoted(card, ask, k),
             Call::Recheck { card, k } => {
-                rechecked(&self.catalogue, &mut self.book, self.labels, card, k)
+                rechecked(
+                    &self.catalogue,
+                    &mut self.book,
+                    &mut self.workspace,
+                    card,
+                    k,
+                )
             }
             Call::Discard { card } => self.discarded(card),
             Call::Read { card, start } => read_into(&self.book, card, self.reply, start),
@@ -190,46 +235,7 @@ fn linked<M: Measure, N: Numbers<M>>(joined: Option<&Joined<N>>) -> Option<Link<
     Some(link(start, end, value))
 }
 
-// A place as no call leaves it, with notes that lead nowhere.
-fn used_slot<M: Measure>(value: M) -> Slot<M> {
-    Slot {
-        label: Label {
-            state: State::Settled,
-            value,
-            previous: 5,
-            link: 6,
-        },
-        share: Ratio { top: 9, bottom: 0 },
-        winner: 60000,
-        best: 60001,
-        used: 60002,
-        first: 60003,
-        next: 60004,
-    }
-}
-
-// Each of the labels is such a place from then on.
-fn fill<M: Measure>(labels: &mut [Slot<M>], value: M) {
-    for slot in labels.iter_mut() {
-        *slot = used_slot(value);
-    }
-}
-
-// Each of them still is. They are lent as to `fill`: the borrow checker does not cover a mutable slice in a field that is lent again as a shared one.
-fn check_filled<M: Measure + PartialEq + Debug>(rt: &impl Abort, labels: &mut [Slot<M>], value: M) {
-    for &slot in labels.iter() {
-        check_same(rt, slot, used_slot(value));
-    }
-}
-
-// Each of them is free.
-fn check_free<M: Measure>(rt: &impl Abort, labels: &mut [Slot<M>]) {
-    for &slot in labels.iter() {
-        check_same(rt, slot.label.state, State::Free);
-    }
-}
-
-impl<M: Measure + PartialEq + Debug> Day<'_, M, M::Limit> {
+impl<M: Measure + PartialEq + Debug> Day<'_, M> {
     // The calls, one after the other, answer what stands beside them.
     fn check<N: Numbers<M>>(&mut self, rt: &impl Abort, turns: &[Turn<N>]) {
         for (turn, &(asked, want)) in turns.iter().enumerate() {
@@ -279,9 +285,6 @@ impl<M: Measure + PartialEq + Debug> Day<'_, M, M::Limit> {
             Step::Links(links) => self.check_links(rt, links),
             Step::Readings(readings) => self.check_readings(rt, readings),
             Step::Reply(numbers) => check_numbers(rt, self.reply, numbers),
-            Step::Fill(value) => fill(self.labels, value.value()),
-            Step::Filled(value) => check_filled(rt, self.labels, value.value()),
-            Step::Free => check_free(rt, self.labels),
         }
     }
 
@@ -293,7 +296,7 @@ impl<M: Measure + PartialEq + Debug> Day<'_, M, M::Limit> {
     }
 }
 
-// A day of these sizes goes through the steps, and leaves these row numbers, if any are given.
+// A day of these sizes goes through the steps, and leaves these row numbers, if any are given, and every label free.
 pub(crate) fn check_day<M: Measure + PartialEq + Debug, N: Numbers<M>, R: Abort + Alloc>(
     rt: &R,
     sizes: Sizes,
@@ -302,6 +305,7 @@ pub(crate) fn check_day<M: Measure + PartialEq + Debug, N: Numbers<M>, R: Abort 
 ) -> Result<(), AllocError> {
     let mut memory = lend::<M, R>(rt, sizes)?;
     memory.open().check_steps(rt, steps);
+    check_free(rt, &memory.labels);
     if let Some(rows) = rows {
         check_numbers(rt, &memory.rows, rows);
     }

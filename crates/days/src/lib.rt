@@ -15,3 +15,5 @@ mod rows;
 mod tables;
 #[cfg(test)]
 mod trunk_day;
+#[cfg(test)]
+mod unchecked;

@@ -3,7 +3,7 @@ use crate::checks::*;
 use crate::tables::Asked::*;
 use crate::tables::Step::*;
 use crate::tables::Want::*;
-use crate::tables::{Reading, Three, Turn, Want, ask};
+use crate::tables::{Reading, Step, Three, Turn, Want, ask};
 use cards::Card;
 use measure::Measure;
 use measure::pair::Trunk;
@@ -159,25 +159,30 @@ const LAST_RECHECKS: [Turn<Three>; 1] = [(Recheck(0, 2), NONE)];
 
 const READ: [Turn<Three>; 1] = [(Read(0, 0), NONE)];
 
-// What the places of the workspace hold.
-const USED: Three = (1, 2, 3);
+const RECHECKS: [Step<'static, Three>; 7] = [
+    Calls(&TWO_LINKS),
+    Calls(&QUOTED),
+    Themselves(&STANDING_RECHECKS),
+    Calls(&WITHDRAWN),
+    Themselves(&DOUBTFUL_RECHECKS),
+    Themselves(&LAST_RECHECKS),
+    Calls(&READ),
+];
 
-// A recheck of a standing card leaves the workspace as it was, and so does one that is refused; one of a doubtful card frees it.
+// After so many of these steps, these are the rows.
+const RECHECKED: [(usize, [u16; 8]); 4] = [
+    (3, [1, 2, 0, 0, 7, 7, 7, 7]),
+    (5, [1, 2, 0, 0, 7, 7, 7, 7]),
+    (6, [0, 0, 0, 0, 7, 7, 7, 7]),
+    (7, [0, 0, 0, 0, 7, 7, 7, 7]),
+];
+
+// The workspace is free after a recheck that is refused, be the card standing or doubtful, and after one that looks for a route.
 #[test]
 fn rechecks_and_the_workspace(rt: HostRuntime) -> Result<(), Fail> {
-    let steps = [
-        Calls(&TWO_LINKS),
-        Calls(&QUOTED),
-        Fill(USED),
-        Themselves(&STANDING_RECHECKS),
-        Calls(&WITHDRAWN),
-        Themselves(&DOUBTFUL_RECHECKS),
-        Filled(USED),
-        Themselves(&LAST_RECHECKS),
-        Free,
-        Calls(&READ),
-    ];
-    check_trunk_day(&rt, SIZES, &steps, Some(&[0, 0, 0, 0, 7, 7, 7, 7]))?;
+    for (count, want) in RECHECKED {
+        check_trunk_day(&rt, SIZES, &RECHECKS[0..count.min(7)], Some(&want))?;
+    }
     Ok(())
 }
 
@@ -196,7 +201,7 @@ const FULL_SITE: [Turn<Three>; 6] = [
     (Read(1, 0), Refused(Refusal::CardEmpty)),
 ];
 
-// Then the card is rechecked by itself.
+// Then the card is rechecked by itself: no label is kept.
 const FULL_RECHECKS: [Turn<Three>; 1] = [(Recheck(0, 1), FULL)];
 
 #[test]
@@ -205,9 +210,7 @@ fn a_full_site_leaves_card_and_row(rt: HostRuntime) -> Result<(), Fail> {
     let steps = [
         Calls(&TWO_LINKS),
         Calls(&FULL_SITE),
-        Fill(USED),
         Themselves(&FULL_RECHECKS),
-        Free,
     ];
     check_trunk_day(&rt, sizes, &steps, Some(&[1, 2, 0, 0, 7, 7, 7, 7]))?;
     Ok(())

@@ -153,8 +153,7 @@ impl<N> Want<N> {
 pub(crate) type Reading<N> = (usize, usize, Want<N>, [u16; 5]);
 
 // What a day goes through: calls by way of all calls, or each by its own function, that answer what stands beside them; the links of the first
-// places, while the others hold none; readings; the numbers of the reply; a workspace that is filled with places as no call leaves them, which
-// have this value, is still so, or is free.
+// places, while the others hold none; readings; the numbers of the reply.
 #[derive(Drop)]
 pub(crate) enum Step<'a, N> {
     Calls(&'a [Turn<N>]),
@@ -162,7 +161,4 @@ pub(crate) enum Step<'a, N> {
     Links(&'a [Joined<N>]),
     Readings(&'a [Reading<N>]),
     Reply(&'a [u16]),
-    Fill(N),
-    Filled(N),
-    Free,
 }

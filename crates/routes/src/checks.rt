@@ -1,12 +1,12 @@
 //! What the tests share: values, questions, what is found for them, and how a network is asked.
 use catalogue::walks::{Reached, follow};
 use catalogue::{Catalogue, Link, Links};
-use labels::Slot;
+use labels::{Label, Slot, State};
 use measure::pair::Pair;
 use measure::scalar::Sum;
 use measure::{Measure, Ratio};
 use report::Refusal;
-use routing::{Ask, Route, find_route, free_slot};
+use routing::{Ask, Route, Workspace, find_route};
 use std::fmt::Debug;
 use std::process::Abort;
 use std::test::Fail;
@@ -137,15 +137,44 @@ fn check_legs<M: Measure + PartialEq + Debug>(
     Ok(())
 }
 
-// What routing answers. Its contract is met here alone, so that no test has to carry it.
+// A place as no search leaves it, with notes that lead nowhere.
+pub(crate) fn used_slot<M: Measure>() -> Slot<M> {
+    Slot {
+        label: Label {
+            state: State::Settled,
+            value: M::empty(),
+            previous: 5,
+            link: 6,
+        },
+        share: Ratio { top: 9, bottom: 0 },
+        winner: 60000,
+        best: 60001,
+        used: 60002,
+        first: 60003,
+        next: 60004,
+    }
+}
+
+// Each of the labels is free.
+fn check_free<M: Measure>(rt: &impl Abort, labels: &[Slot<M>]) {
+    for &slot in labels {
+        check_same(rt, slot.label.state, State::Free);
+    }
+}
+
+// What routing answers, in a workspace of these labels for this call alone: afterwards each of them is free. Its contract is met here alone,
+// so that no test has to carry it.
 pub(crate) fn answer<M: Measure, N: Numbers<M>>(
+    rt: &impl Abort,
     network: &Catalogue<'_, M>,
     labels: &mut [Slot<M>],
     (k, source, destination, limit): Asked<N>,
     row: &mut [u16],
 ) -> Result<Option<Route<M>>, Refusal> {
     let asked = ask(source, destination, limit);
-    find_route(network, labels, k, asked, row)
+    let answer = find_route(network, &mut Workspace::new(labels), k, asked, row);
+    check_free(rt, labels);
+    answer
 }
 
 // The value and the ratio of the route that is answered.
@@ -186,7 +215,7 @@ fn check_answer<M: Measure + PartialEq + Debug, N: Numbers<M>>(
     let (k, source, destination, _) = asked;
     let mut row = [9; 16];
     let size = network.sites().saturating_mul(k).min(labels.len());
-    let answer = answer(network, &mut labels[0..size], asked, &mut row);
+    let answer = answer(rt, network, &mut labels[0..size], asked, &mut row);
     check_same(rt, found(answer), want.found());
     check_row(rt, network, source, destination, &row, answer)
 }
@@ -205,14 +234,14 @@ pub(crate) fn opened<'a, M: Measure, N: Numbers<M>>(
     Ok(network)
 }
 
-// What stands beside the questions is found for them, with so many labels to lend.
+// What stands beside the questions is found for them, with so many labels to lend, none of which is free at first.
 fn check_cases<M: Measure + PartialEq + Debug, N: Numbers<M>>(
     rt: &(impl Abort + Alloc),
     network: &Catalogue<'_, M>,
     labels: usize,
     cases: &[Case<N>],
 ) -> Result<(), Fail> {
-    let mut labels = vec![in rt.alloc(); free_slot::<M>(); labels]?;
+    let mut labels = vec![in rt.alloc(); used_slot::<M>(); labels]?;
     for &(asked, want) in cases {
         check_answer(rt, network, &mut labels, asked, want)?;
     }

@@ -2,7 +2,7 @@
 use crate::checks::*;
 use measure::Measure;
 use report::Refusal;
-use routing::{Route, free_slot};
+use routing::Route;
 use std::process::Abort;
 use std::test::Fail;
 
@@ -20,18 +20,24 @@ type Attempt<N> = (Asked<N>, usize, usize);
 type Left<M> = (Result<Option<Route<M>>, Refusal>, [u16; 2]);
 
 // The attempt at a route, in a network of two sites and so many places, with the links from the first place on. The row holds nines, and as
-// many of its numbers are lent as the attempt says.
+// many of its numbers are lent as the attempt says. No label is free at first.
 fn attempt<M: Measure, N: Numbers<M>>(
-    rt: &impl Alloc,
+    rt: &(impl Abort + Alloc),
     (places, first): (usize, usize),
     links: &[Joined<N>],
     (asked, size, numbers): Attempt<N>,
 ) -> Result<Left<M>, Fail> {
     let mut places = vec![in rt.alloc(); None; places]?;
-    let mut labels = vec![in rt.alloc(); free_slot::<M>(); size]?;
+    let mut labels = vec![in rt.alloc(); used_slot::<M>(); size]?;
     let mut row = [9; 2];
     let network = opened(&mut places, 2, first, links)?;
-    let answer = answer(&network, &mut labels, asked, &mut row[0..numbers.min(2)]);
+    let answer = answer(
+        rt,
+        &network,
+        &mut labels,
+        asked,
+        &mut row[0..numbers.min(2)],
+    );
     Ok((answer, row))
 }
 
@@ -139,4 +145,37 @@ fn check_just_held<M: Measure, N: Numbers<M>>(
 #[test]
 fn a_row_that_just_holds_the_sites(rt: HostRuntime) -> Result<(), Fail> {
     check_just_held::<Two, _>(&rt, &LINKS, (2147483647, 1))
+}
+
+// Sites and link places of a network, and the two sites between which a route is sought: such a size is refused, so that the network has
+// no sites. A row number and a label are lent for each of up to 257 sites.
+const NO_SITES: [(usize, usize, u16, u16); 8] = [
+    (257, 4, 0, 256),
+    (257, 4, 0, 0),
+    (257, 4097, 0, 256),
+    (0, 4, 0, 0),
+    (0, 4, 0, 1),
+    (2, 0, 0, 1),
+    (2, 4097, 0, 1),
+    (usize::MAX, 1, 1, 0),
+];
+
+// With one label a site, under a limit that a link would meet.
+#[test]
+fn networks_of_no_sites(rt: HostRuntime) -> Result<(), Fail> {
+    for (sites, places, source, destination) in NO_SITES {
+        let mut places = vec![in rt.alloc(); None; places]?;
+        let mut labels = vec![in rt.alloc(); used_slot::<Two>(); sites.min(257)]?;
+        let mut row = [9; 257];
+        let network = opened::<Two, Pairs>(&mut places, sites, 0, &[])?;
+        let asked = (1, source, destination, TENS);
+        let answer = answer(&rt, &network, &mut labels, asked, &mut row);
+        check_same(
+            &rt,
+            (sites, answer.err()),
+            (sites, Some(Refusal::NoSuchSite)),
+        );
+        check_all(&rt, &row, 9);
+    }
+    Ok(())
 }
