@@ -29,7 +29,7 @@ fn is_shown(model: &Model, card: usize, reply: PlainReply, numbers: &[u16]) -> b
     }
 }
 
-impl<M: Kind> Trial<'_, M, M::Limit> {
+impl<M: Kind> Trial<'_, M> {
     // Reads the card, filled or not, and compares.
     fn audit_card(&mut self, card: usize) -> Result<(), Wrong> {
         // an array, as a reply is lent

@@ -6,10 +6,9 @@ use crate::request::Request;
 use crate::turn::Turn;
 use cards::{Answer, Call};
 use catalogue::{Catalogue, Link};
-use labels::Slot;
 use quotes::{QuoteBook, change, discard, offer, perform, quote, read, recheck, withdraw};
 use report::{Mark, Refusal, Returned};
-use routing::{Ask, Route};
+use routing::{Ask, Route, Workspace};
 
 // What a call that is carried out answers.
 #[derive(Clone, Copy, PartialEq, Eq, Debug)]
@@ -126,8 +125,8 @@ impl<M: Kind> From<Request> for Call<M, M::Limit> {
 // The call that the request says, of the seven.
 fn call_itself<M: Kind>(
     catalogue: &mut Catalogue<'_, M>,
-    book: &mut QuoteBook<'_, M, M::Limit>,
-    workspace: &mut [Slot<M>],
+    book: &mut QuoteBook<'_, M>,
+    workspace: &mut Workspace<'_, M>,
     reply: &mut [u16],
     request: Request,
 ) -> Result<PlainAnswer, Refusal> {
@@ -158,8 +157,8 @@ fn call_itself<M: Kind>(
 // Carries out the turn's request by its own call, or by the one call for all.
 pub(crate) fn carry_out<M: Kind>(
     catalogue: &mut Catalogue<'_, M>,
-    book: &mut QuoteBook<'_, M, M::Limit>,
-    workspace: &mut [Slot<M>],
+    book: &mut QuoteBook<'_, M>,
+    workspace: &mut Workspace<'_, M>,
     reply: &mut [u16],
     turn: Turn,
 ) -> PlainReply {
@@ -173,7 +172,7 @@ pub(crate) fn carry_out<M: Kind>(
 
 // What a reading of the card answers.
 pub(crate) fn read_card<M: Kind>(
-    book: &QuoteBook<'_, M, M::Limit>,
+    book: &QuoteBook<'_, M>,
     card: usize,
     reply: &mut [u16],
     start: usize,

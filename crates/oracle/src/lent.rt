@@ -1,6 +1,6 @@
 //! What is lent for a call, the workspace and the reply, and how it should come back.
 use crate::kind::Kind;
-use crate::model::{Forecast, Foreseen, LEGS};
+use crate::model::LEGS;
 use crate::request::Request;
 use labels::{Label, Slot, State};
 use measure::Ratio;
@@ -41,19 +41,16 @@ pub(crate) fn mark_labels<M: Kind>(labels: &mut [Slot<M>]) {
     }
 }
 
-// Whether the place is free, or else as it was marked.
-fn is_as_left<M: Kind>(slot: &Slot<M>, is_used: bool) -> bool {
-    match slot.label.state {
-        State::Free => is_used,
-        State::Queued => false,
-        State::Settled => !is_used && slot.label.previous == MARKED && slot.label.link == MARKED,
-    }
+// Whether the label is as it was marked.
+fn is_marked<M: Kind>(slot: &Slot<M>) -> bool {
+    slot.label.state == State::Settled && slot.label.previous == MARKED && slot.label.link == MARKED
 }
 
-// Whether routing left every label free, and every other call left them as they were.
-pub(crate) fn are_as_left<M: Kind>(labels: &[Slot<M>], forecast: Forecast) -> bool {
-    let is_used = matches!(forecast, Ok(Foreseen::Sought(_)));
-    labels.iter().all(|slot| is_as_left(slot, is_used))
+// Whether each label of a workspace of so many is free, and each one beyond it as it was marked.
+pub(crate) fn are_as_left<M: Kind>(labels: &[Slot<M>], room: usize) -> bool {
+    let mut lent = labels.iter().take(room);
+    let mut beyond = labels.iter().skip(room);
+    lent.all(|slot| slot.label.state == State::Free) && beyond.all(is_marked)
 }
 
 // Whether these stand from the start place on, and blanks everywhere else.

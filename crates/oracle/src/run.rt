@@ -11,6 +11,7 @@ use crate::turn::{Trial, Turn};
 use cards::Card;
 use catalogue::{Catalogue, Link};
 use labels::Slot;
+use measure::Measure;
 use quotes::QuoteBook;
 use routing::free_slot;
 use std::alloc::{AllocError, Global};
@@ -34,14 +35,14 @@ const WORKSPACE: usize = 325;
 
 // What is lent to one catalogue after the other, to its quote book and one for another number of sites, and to their calls.
 #[derive(Drop)]
-struct Memory<M, L> {
+struct Memory<M: Measure> {
     links: Vec<Option<Link<M>>>,
-    cards: Vec<Option<Card<M, L>>>,
-    other_cards: Vec<Option<Card<M, L>>>,
+    cards: Vec<Option<Card<M, M::Limit>>>,
+    other_cards: Vec<Option<Card<M, M::Limit>>>,
     labels: Vec<Slot<M>>,
 }
 
-fn lend<M: Kind>(alloc: Global) -> Result<Memory<M, M::Limit>, AllocError> {
+fn lend<M: Kind>(alloc: Global) -> Result<Memory<M>, AllocError> {
     Ok(Memory {
         links: vec![in alloc; None; PLACES]?,
         cards: vec![in alloc; None; CARDS]?,
@@ -61,7 +62,7 @@ fn scale(random: &mut Random) -> u64 {
 
 // The next call, mostly on the catalogue's own quote book, and what both hold after it.
 fn try_call<M: Kind>(
-    trial: &mut Trial<'_, M, M::Limit>,
+    trial: &mut Trial<'_, M>,
     random: &mut Random,
     style: Style,
 ) -> Result<(), Difference> {
@@ -93,7 +94,7 @@ fn try_call<M: Kind>(
 
 // Makes a run of calls. It stands by itself, so that a check of it need not carry the memory that the catalogue is opened over.
 fn try_calls<M: Kind>(
-    trial: &mut Trial<'_, M, M::Limit>,
+    trial: &mut Trial<'_, M>,
     random: &mut Random,
     style: Style,
 ) -> Result<(), Difference> {
@@ -107,7 +108,7 @@ fn try_calls<M: Kind>(
 // Opens a catalogue and its quote book, and another quote book of another size, and makes a run of calls.
 fn try_catalogue<M: Kind>(
     alloc: Global,
-    memory: &mut Memory<M, M::Limit>,
+    memory: &mut Memory<M>,
     random: &mut Random,
     tally: &mut Tally,
 ) -> Result<(), Difference> {
@@ -136,7 +137,7 @@ fn try_catalogue<M: Kind>(
 // Tries a catalogue, and beside it sizes of others and the bytes of a feed.
 fn try_one<M: Kind>(
     alloc: Global,
-    memory: &mut Memory<M, M::Limit>,
+    memory: &mut Memory<M>,
     random: &mut Random,
     tally: &mut Tally,
 ) -> Result<(), Difference> {

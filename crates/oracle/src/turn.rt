@@ -10,8 +10,10 @@ use crate::request::Request;
 use crate::tally::{Tally, count};
 use catalogue::Catalogue;
 use labels::Slot;
+use measure::Measure;
 use quotes::QuoteBook;
 use report::{Mark, Returned};
+use routing::Workspace;
 use std::alloc::AllocError;
 
 // A request, what it should be answered, whether it goes by its own call or by the one for all, and whether to the quote book that is for
@@ -27,10 +29,10 @@ pub struct Turn {
 
 // A catalogue, its quote book and another for one site more, what is lent to their calls, the model of what they hold, and what was tried.
 #[derive(Drop)]
-pub struct Trial<'a, M, L> {
+pub struct Trial<'a, M: Measure> {
     pub catalogue: Catalogue<'a, M>,
-    pub book: QuoteBook<'a, M, L>,
-    pub other: QuoteBook<'a, M, L>,
+    pub book: QuoteBook<'a, M>,
+    pub other: QuoteBook<'a, M>,
     pub labels: &'a mut [Slot<M>],
     pub model: Model,
     pub tally: &'a mut Tally,
@@ -49,7 +51,7 @@ fn full_site(returned: Returned) -> Option<u16> {
     }
 }
 
-impl<M: Kind> Trial<'_, M, M::Limit> {
+impl<M: Kind> Trial<'_, M> {
     // Compares what was said of a full site: there are more walks to it than its labels hold, none dominating another.
     fn check_full(
         &mut self,
@@ -138,16 +140,17 @@ impl<M: Kind> Trial<'_, M, M::Limit> {
     // Has the request carried out by the library, and compares what it answers and what comes back with what the model foresees.
     pub(crate) fn take(&mut self, turn: Turn) -> Result<(), Wrong> {
         let (label_room, number_room) = room_for(turn.request);
-        let room = label_room.min(self.labels.len());
-        let workspace = &mut self.labels[0..room];
-        mark_labels(workspace);
+        let labels = &mut *self.labels;
+        let room = label_room.min(labels.len());
+        mark_labels(labels);
+        let mut workspace = Workspace::new(&mut labels[0..room]);
         // an array, as a reply is lent
         let mut numbers = [BLANK; LEGS];
         let lent = &mut numbers[0..number_room.min(LEGS)];
         let book = pick(&mut self.book, &mut self.other, turn.is_elsewhere);
-        let reply = carry_out(&mut self.catalogue, book, workspace, lent, turn);
+        let reply = carry_out(&mut self.catalogue, book, &mut workspace, lent, turn);
         self.tally.note_reply(reply);
-        ensure(are_as_left(workspace, turn.forecast), Wrong::Workspace)?;
+        ensure(are_as_left(labels, room), Wrong::Workspace)?;
         ensure(self.are_numbers_right(turn, lent), Wrong::Numbers)?;
         self.check_reply(turn.forecast, reply)
     }
