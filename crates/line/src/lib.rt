@@ -1,7 +1,7 @@
 //! The lines that are printed, one for each record, composed as bytes in a lent buffer.
 #![tactic(auto)]
 
-ghost use Rattle.std.specs.Prelude.{◌≡◌, ◌+◌, ◌<◌, ◌≤◌, true, [], length, is_ok, nat_le};
+ghost use Rattle.std.specs.Prelude.{◌≡◌, ◌+◌, ◌<◌, ◌≤◌, true, [], length, IsOk, nat_le};
 ghost use Rattle.std.specs.List.{flat_map};
 ghost use Rattle.line.specs.Lines.{mark_word, words, after_space, line_of};
 ghost use Rattle.report.specs.Buffers.{Put};
@@ -136,7 +136,7 @@ pub fn write_line(
     start: usize,
 ) -> Result<usize, Refusal>
     ensures put { Put (line_of number reply legs.now) start buffer.old buffer.new result }
-    ensures room { length legs.now < 256 → start + 2048 ≤ length buffer.old → is_ok result ≡ true }
+    ensures room { length legs.now < 256 → start + 2048 ≤ length buffer.old → IsOk result }
 {
     let line = Line {
         number,
