@@ -45,13 +45,13 @@ module _ {V L : Type 0} {K : Kind V L} {sites : ℕ} {cards : List (Option (Card
   after_sound event None was card e = absurd (none_some e)
   after_sound event (Some it) was card e =
       let s = was it refl in
-      subst (λ (x : Card V L). SoundCard K sites x) (some_same e) (record { source_in = s.source_in; destination_in = s.destination_in; admitted = s.admitted; short = s.short })
+      subst (λ (x : Card V L). SoundCard K sites x) (some_same e) (record { source_in = s.source_in; destination_in = s.destination_in; admitted = s.admitted; short = s.short; few = s.few })
 
   -- news at a place
   pub sound_after : (c : ℕ) (event : MarkEvent) (cards' : List (Option (Card V L))) → c < length cards → cards' ≡ set cards c (after event (at cards c)) → SoundBook K sites cards' rows
   sound_after c event cards' lt is = sound_write c (after event (at cards c)) cards' rows lt is refl (after_sound event (at cards c) (λ card. sound.each c card))
 
--- what was found has fewer legs than there are sites
+-- what was found has fewer legs than there are sites, or any more of them
 pub found_few : {V L : Type 0} (K : Kind V L) (n : Network V) (ask : Ask L) (width : ℕ) → Sound K n.sites n.links → ask.source < n.sites → n.sites ≤ width →
     (answer : Option (Route V)) (legs : List ℕ) → Found K n.links ask answer legs → leg_count answer < width
 found_few K n ask width sound inside wide None legs f = omega arith

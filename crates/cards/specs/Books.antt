@@ -65,12 +65,14 @@ legs_in row answer = take (leg_count answer) row
 abbrev pub legs_at : {V L : Type 0} → Book V L → ℕ → Option (Route V) → List ℕ
 legs_at b c answer = legs_in (row_at b.width b.rows c) answer
 
--- a card that a quote book for so many sites may hold: its ends are sites, its limit is admitted, and its route has fewer legs than its row has numbers
+-- a card that a quote book for so many sites may hold: its ends are sites, its limit is admitted, and its route has fewer legs than its row
+-- has numbers, and fewer than the 256 sites that a catalogue has at the most
 pub record SoundCard {V L : Type 0} (K : Kind V L) (sites : ℕ) (card : Card V L) : Type 0 where
   pub source_in : card.ask.source < sites
   pub destination_in : card.ask.destination < sites
   pub admitted : K.limit_admitted card.ask.limit ≡ true
   pub short : leg_count card.answer < sites
+  pub few : leg_count card.answer < 256
 
 -- a quote book as its calls make it: every card is such, and there is a row number for each card place and site
 pub record SoundBook {V L : Type 0} (K : Kind V L) (sites : ℕ) (cards : List (Option (Card V L))) (rows : List ℕ) : Type 0 where

@@ -1,13 +1,13 @@
 //! What the tests share: a day's memory, its calls, and what they answer.
 use crate::tables::{Joined, Numbers, Reading, Step, Three, Turn, held, link};
 use cards::{Answer, Call, Card, Reply};
-use catalogue::{Catalogue, Link, Links};
+use catalogue::{Ask, Catalogue, Link, Links};
 use labels::{Label, Slot, State};
 use measure::pair::Trunk;
 use measure::{Measure, Ratio};
 use quotes::{QuoteBook, change, discard, offer, perform, quote, read, recheck, withdraw};
 use report::Mark;
-use routing::{Ask, Workspace};
+use routing::Workspace;
 use std::alloc::{AllocError, Allocator};
 use std::fmt::Debug;
 use std::process::Abort;

@@ -1,11 +1,10 @@
 //! What tables of calls are written in: plain numbers, side by side, so that a table can be a constant.
 use cards::{Answer, Call, Reply};
-use catalogue::Link;
+use catalogue::{Ask, Link, Route};
 use measure::pair::{Loop, Trunk, TrunkLimit, trunk_limits, trunk_value};
 use measure::scalar::Sum;
 use measure::{Measure, Ratio};
 use report::{Mark, Refusal};
-use routing::{Ask, Route};
 use std::alloc::AllocError;
 
 // The numbers of a value or of a limit.

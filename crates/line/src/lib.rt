@@ -1,7 +1,7 @@
 //! The lines that are printed, one for each record, composed as bytes in a lent buffer.
 #![tactic(auto)]
 
-ghost use Rattle.std.specs.Prelude.{◌≡◌, ◌+◌, [], length, nat_le};
+ghost use Rattle.std.specs.Prelude.{◌≡◌, ◌+◌, ◌<◌, ◌≤◌, true, [], length, IsOk, nat_le};
 ghost use Rattle.std.specs.List.{flat_map};
 ghost use Rattle.line.specs.Lines.{mark_word, words, after_space, line_of};
 ghost use Rattle.report.specs.Buffers.{Put};
@@ -10,7 +10,7 @@ mod sinks;
 mod words;
 
 use crate::sinks::{End, Sink, Writer};
-use crate::words::{Word, put_number, put_words};
+use crate::words::{Word, number_word, put_number, put_words, share_word};
 use measure::Ratio;
 use measure::pair::Trunk;
 use report::{Mark, Refusal, Returned};
@@ -47,15 +47,16 @@ fn mark_text(mark: Mark) -> &'static [u8]
 
 // Puts the words of a refusal into a sink: its number, and what it returns.
 fn put_refusal<S: Sink>(why: Refusal, sink: &mut S)
-    ensures { S.took sink.old (flat_map after_space (words (Reply.Refused why) [])) sink.new }
+    ensures words { S.took sink.old (flat_map after_space (words (Reply.Refused why) [])) sink.new }
+    ensures short { length (flat_map after_space (words (Reply.Refused why) [])) ≤ 71 }
 {
     let refused = Word::Text(b"refused");
-    let number = Word::Number(usize::from(why.number()));
+    let number = number_word(usize::from(why.number()));
     match why.returned() {
         Returned::Nothing => put_words(&[refused, number], &[], sink),
-        Returned::One(a) => put_words(&[refused, number, Word::Number(a)], &[], sink),
+        Returned::One(a) => put_words(&[refused, number, number_word(a)], &[], sink),
         Returned::Two(a, b) => put_words(
-            &[refused, number, Word::Number(a), Word::Number(b)],
+            &[refused, number, number_word(a), number_word(b)],
             &[],
             sink,
         ),
@@ -65,19 +66,20 @@ fn put_refusal<S: Sink>(why: Refusal, sink: &mut S)
 impl Reply {
     // Puts its words into a sink, and of a route its legs too.
     fn put<S: Sink>(self, legs: &[u16], sink: &mut S)
-        ensures { S.took sink.old (flat_map after_space (words self legs.now)) sink.new }
+        ensures words { S.took sink.old (flat_map after_space (words self legs.now)) sink.new }
+        ensures short { length legs.now < 256 → length (flat_map after_space (words self legs.now)) ≤ 2027 }
     {
         match self {
-            Reply::Counted(n) => put_words(&[Word::Text(b"ok"), Word::Number(n)], &[], sink),
+            Reply::Counted(n) => put_words(&[Word::Text(b"ok"), number_word(n)], &[], sink),
             Reply::Route { mark, ratio, value } => {
                 let words = [
                     Word::Text(b"route"),
                     Word::Text(mark_text(mark)),
-                    Word::Share(ratio),
-                    Word::Number(value.first.first.number() as usize),
-                    Word::Number(value.first.second.number() as usize),
-                    Word::Number(value.second.number() as usize),
-                    Word::Number(legs.len()),
+                    share_word(ratio.top, ratio.bottom),
+                    number_word(value.first.first.number() as usize),
+                    number_word(value.first.second.number() as usize),
+                    number_word(value.second.number() as usize),
+                    number_word(legs.len()),
                 ];
                 put_words(&words, legs, sink)
             }
@@ -104,7 +106,8 @@ struct Line<'a> {
 impl Line<'_> {
     // Puts the line into a sink: one that counts it, or one that writes it.
     fn put<S: Sink>(self, sink: &mut S)
-        ensures { S.took sink.old (line_of self.entry.number self.entry.reply self.entry.legs.now) sink.new }
+        ensures bytes { S.took sink.old (line_of self.entry.number self.entry.reply self.entry.legs.now) sink.new }
+        ensures short { length self.entry.legs.now < 256 → length (line_of self.entry.number self.entry.reply self.entry.legs.now) ≤ 2048 }
     {
         put_number(self.number, sink);
         self.reply.put(self.legs, sink);
@@ -113,7 +116,8 @@ impl Line<'_> {
 
     // Whether the buffer has room for the line from the start place on.
     fn fits(self, buffer: &[u8], start: usize) -> bool
-        ensures { result ≡ nat_le (start + length (line_of self.entry.number self.entry.reply self.entry.legs.now)) (length buffer.now) }
+        ensures fits { result ≡ nat_le (start + length (line_of self.entry.number self.entry.reply self.entry.legs.now)) (length buffer.now) }
+        ensures room { length self.entry.legs.now < 256 → start + 2048 ≤ length buffer.now → result ≡ true }
     {
         let mut end = End(start);
         self.put(&mut end);
@@ -123,7 +127,7 @@ impl Line<'_> {
 
 // Writes the line of the record with this number into the lent buffer from the caller's start place on, and returns the place after it.
 // The legs are those of a route; the other replies have none, and what is passed is not read.
-// A buffer that is too short is left as it was.
+// A buffer that is too short is left as it was; for fewer than 256 legs, 2,048 bytes from the start place on are enough.
 pub fn write_line(
     number: usize,
     reply: Reply,
@@ -131,7 +135,8 @@ pub fn write_line(
     buffer: &mut [u8],
     start: usize,
 ) -> Result<usize, Refusal>
-    ensures { Put (line_of number reply legs.now) start buffer.old buffer.new result }
+    ensures put { Put (line_of number reply legs.now) start buffer.old buffer.new result }
+    ensures room { length legs.now < 256 → start + 2048 ≤ length buffer.old → IsOk result }
 {
     let line = Line {
         number,

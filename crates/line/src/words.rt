@@ -1,15 +1,17 @@
 //! The words of a line.
-ghost use Rattle.std.specs.Prelude.{◌≡◌, ◌++◌, map, decimal};
+ghost use Rattle.std.specs.Prelude.{◌≡◌, ◌≤◌, ◌++◌, map, length, decimal};
 ghost use Rattle.std.specs.List.{flat_map};
 ghost use Rattle.line.specs.Lines.{after_space};
-ghost use Rattle.line.specs.Words.{spelled};
+ghost use Rattle.line.specs.Words.{spelled, share_of};
 
 use crate::sinks::Sink;
 use measure::Ratio;
 
 // Puts a number in decimal. std prints numbers through `fmt` alone, whose contract does not say when it succeeds.
+#[tactic(auto, using(crate::proofs::Lengths::twenty_digits))]
 pub(crate) fn put_number<S: Sink>(n: usize, sink: &mut S)
-    ensures { S.took sink.old (decimal n) sink.new }
+    ensures digits { S.took sink.old (decimal n) sink.new }
+    ensures short { length (decimal n) ≤ 20 }
 {
     if n < 10 {
         return sink.put(&[b'0' + n as u8]);
@@ -23,6 +25,24 @@ pub(crate) enum Word {
     Text(&'static [u8]),
     Number(usize),
     Share(Ratio),
+}
+
+// A number as a word: its type says that it has twenty digits at the most.
+#[tactic(auto, using(crate::proofs::Lengths::twenty_digits))]
+pub(crate) fn number_word(n: usize) -> Word
+    ensures word { result ≡ Word.Number n }
+    ensures short { length (decimal n) ≤ 20 }
+{
+    Word::Number(n)
+}
+
+// A share as a word: its numbers have ten digits at the most.
+#[tactic(auto, using(crate::proofs::Lengths::ten_digits))]
+pub(crate) fn share_word(top: u32, bottom: u32) -> Word
+    ensures word { result ≡ Word.Share (share_of top bottom) }
+    ensures short { (length (decimal top) ≤ 10) × (length (decimal bottom) ≤ 10) }
+{
+    Word::Share(Ratio { top, bottom })
 }
 
 impl Word {

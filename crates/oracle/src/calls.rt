@@ -5,10 +5,10 @@ use crate::model::{PlainAsk, PlainLink, PlainRoute};
 use crate::request::Request;
 use crate::turn::Turn;
 use cards::{Answer, Call};
-use catalogue::{Catalogue, Link};
+use catalogue::{Ask, Catalogue, Link, Route};
 use quotes::{QuoteBook, change, discard, offer, perform, quote, read, recheck, withdraw};
 use report::{Mark, Refusal, Returned};
-use routing::{Ask, Route, Workspace};
+use routing::Workspace;
 
 // What a call that is carried out answers.
 #[derive(Clone, Copy, PartialEq, Eq, Debug)]

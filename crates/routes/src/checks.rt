@@ -1,12 +1,12 @@
 //! What the tests share: values, questions, what is found for them, and how a network is asked.
 use catalogue::walks::{Reached, follow};
-use catalogue::{Catalogue, Link, Links};
+use catalogue::{Ask, Catalogue, Link, Links, Route};
 use labels::{Label, Slot, State};
 use measure::pair::Pair;
 use measure::scalar::Sum;
 use measure::{Measure, Ratio};
 use report::Refusal;
-use routing::{Ask, Route, Workspace, find_route};
+use routing::{Workspace, find_route};
 use std::fmt::Debug;
 use std::process::Abort;
 use std::test::Fail;

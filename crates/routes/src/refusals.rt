@@ -2,7 +2,7 @@
 use crate::checks::*;
 use measure::Measure;
 use report::Refusal;
-use routing::Route;
+use catalogue::Route;
 use std::process::Abort;
 use std::test::Fail;
 

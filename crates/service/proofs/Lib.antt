@@ -1,2 +1,3 @@
 pub mod Printing
 pub mod Filling
+pub mod Reading

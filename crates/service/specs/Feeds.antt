@@ -1,12 +1,9 @@
 -- What is printed of a feed.
-use Rattle.std.specs.Prelude.{◌≡◌, ℕ, ◌+◌, ◌-◌, ◌<◌, ◌⊎◌, Ok, Err, Result, List, [], ◌++◌, length, take, drop, Some, None, Option}
+use Rattle.std.specs.Prelude.{◌≡◌, ℕ, ◌+◌, ◌-◌, Ok, Err, IfOk, Result, List, [], ◌++◌, length, take, drop, Some, None, Option}
 use Rattle.std.specs.Io.KnownBytes.{Appends}
 use Rattle.records.specs.declared.Record.{Record}
 use Rattle.records.specs.Feed.{reading_of, unread_of}
 use Rattle.report.specs.declared.Refusal.{Refusal}
-use Rattle.report.specs.declared.Refusal.TheVariants.{BufferTooShort}
-use Rattle.service.specs.declared.ServiceError.{ServiceError}
-use Rattle.service.specs.declared.ServiceError.TheVariants as ServiceErrors
 use Rattle.cards.specs.Runs.{Reply, Memory, Lent}
 use Rattle.line.specs.declared.Reply.TheVariants as LineVariants
 use Rattle.line.specs.Lines.{line_of}
@@ -17,22 +14,10 @@ use Rattle.service.specs.Serving.{TrunkValue, TrunkLimits, Served, printed}
 abbrev pub line_for : ℕ → Reply TrunkValue → List ℕ → List ℕ
 line_for number reply numbers = line_of number (printed reply).0 (take (printed reply).1 numbers)
 
--- Why a line was not written: refusal 19, of a line that has more than 2,048 bytes, and nothing of it is written; or the writer failed, and
--- nothing is known of what it holds then. Writing takes no memory.
-abbrev pub Unwritten : List ℕ → Option (List ℕ) → Option (List ℕ) → ServiceError → Type 0
-Unwritten line was is (ServiceErrors.Refused why) = (why ≡ BufferTooShort) × (2048 < length line) × (is ≡ was)
-Unwritten line was is (ServiceErrors.Io error) = Unit {0}
-Unwritten line was is ServiceErrors.OutOfMemory = ⊥
-
--- the line is written behind what was written before, or the answer says why it is not
-abbrev pub PrintsLine : List ℕ → Option (List ℕ) → Option (List ℕ) → Result (Unit {0}) ServiceError → Type 0
-PrintsLine line was is (Ok done) = Appends was is line
-PrintsLine line was is (Err error) = Unwritten line was is error
-
--- the record is served, whatever becomes of its line
-abbrev pub PrintsRecord : Memory TrunkValue TrunkLimits → Lent TrunkValue → ℕ → Record → ℕ → Option (List ℕ) → Option (List ℕ) → Memory TrunkValue TrunkLimits → Lent TrunkValue → Result (Unit {0}) ServiceError → Type 0
+-- the record is served, whatever becomes of its line; where the writer failed, nothing is known of what it holds
+abbrev pub PrintsRecord : {E : Type 0} → Memory TrunkValue TrunkLimits → Lent TrunkValue → ℕ → Record → ℕ → Option (List ℕ) → Option (List ℕ) → Memory TrunkValue TrunkLimits → Lent TrunkValue → Result (Unit {0}) E → Type 0
 PrintsRecord m l number r k was is m' l' answer =
-    (reply : Reply TrunkValue) × Served m l r k reply m' l' × PrintsLine (line_for number reply l'.reply) was is answer
+    (reply : Reply TrunkValue) × Served m l r k reply m' l' × IfOk answer (λ done. Appends was is (line_for number reply l'.reply))
 
 -- The next record of the feed, which begins at the place, was served with so much lent to its call: its line, and the memory after it. It
 -- comes after so many others.
@@ -67,20 +52,11 @@ pub data LinesOf (feed : List ℕ) (room : Room) (m : Memory TrunkValue TrunkLim
   unreadable : {number start : ℕ} {lines line : List ℕ} {after : Memory TrunkValue TrunkLimits} →
       ServesFirst feed room m number start lines after → Unreadable feed number start line → LinesOf feed room m (lines ++ line) after
 
--- The feed broke off at a line that was not written, once the lines of all records before it were.
-pub record BreaksOff (feed : List ℕ) (room : Room) (m : Memory TrunkValue TrunkLimits) (was is : Option (List ℕ)) (m' : Memory TrunkValue TrunkLimits) (error : ServiceError) : Type 0 where
-  pub number : ℕ
-  pub start : ℕ
-  pub lines : List ℕ
-  pub line : List ℕ
-  pub between : Memory TrunkValue TrunkLimits
-  pub printed : Option (List ℕ)
-  pub first : ServesFirst feed room m number start lines between
-  pub written : Appends was printed lines
-  pub next : ServesNext feed room number start between line m' ⊎ (Unreadable feed number start line × (m' ≡ between))
-  pub unwritten : Unwritten line printed is error
+-- the first records of the feed were served, and no more
+abbrev pub BreaksOff : List ℕ → Room → Memory TrunkValue TrunkLimits → Memory TrunkValue TrunkLimits → Type 0
+BreaksOff feed room m m' = (number : ℕ) × (start : ℕ) × (lines : List ℕ) × ServesFirst feed room m number start lines m'
 
--- the lines of the feed are written behind what was written before, or it broke off
-abbrev pub PrintsFeed : List ℕ → Room → Memory TrunkValue TrunkLimits → Option (List ℕ) → Option (List ℕ) → Memory TrunkValue TrunkLimits → Result (Unit {0}) ServiceError → Type 0
+-- the lines of the feed are written behind what was written before; or the writer failed, and nothing is known of what it holds
+abbrev pub PrintsFeed : {E : Type 0} → List ℕ → Room → Memory TrunkValue TrunkLimits → Option (List ℕ) → Option (List ℕ) → Memory TrunkValue TrunkLimits → Result (Unit {0}) E → Type 0
 PrintsFeed feed room m was is m' (Ok done) = (lines : List ℕ) × LinesOf feed room m lines m' × Appends was is lines
-PrintsFeed feed room m was is m' (Err error) = BreaksOff feed room m was is m' error
+PrintsFeed feed room m was is m' (Err error) = BreaksOff feed room m m'

@@ -1,16 +1,14 @@
 -- What is read of an input, and what a program prints of it.
-use Rattle.std.specs.Prelude.{◌≡◌, ℕ, ◌*◌, ◌<◌, ◌≤◌, Ok, Err, Result, List, length, take, replicate, Option}
-use Rattle.std.specs.Io.KnownBytes.{Consumes, IsAtEnd}
+use Rattle.std.specs.Prelude.{◌≡◌, ℕ, ◌*◌, ◌<◌, ◌≤◌, Ok, List, length, take, replicate, Option}
+use Rattle.std.specs.Io.KnownBytes.{Consumes, IsAtEnd, Appends}
 use Rattle.catalogue.specs.Calls.{size_answer}
 use Rattle.cards.specs.Books.{book_size_answer, opened_network, opened_book}
 use Rattle.cards.specs.Runs.{Memory, memory}
-use Rattle.service.specs.declared.ServiceError.{ServiceError}
-use Rattle.service.specs.declared.ServiceError.TheVariants as ServiceErrors
 use Rattle.service.specs.declared.storage.Sizes.{Sizes}
 use Rattle.service.specs.declared.storage.Storage.{Storage}
 use Rattle.service.specs.Serving.{TrunkValue, TrunkLimits}
 use Rattle.service.specs.Services.{Room}
-use Rattle.service.specs.Feeds.{PrintsFeed}
+use Rattle.service.specs.Feeds.{LinesOf}
 
 -- these are the next bytes of the input, so many at the most, and where they are fewer, the input is at its end
 pub record TakesUpTo (room : ℕ) (was is : Option (List ℕ)) (bytes : List ℕ) : Type 0 where
@@ -38,22 +36,14 @@ opened_day s = memory (opened_network s.sites s.places) (opened_book s.sites s.c
 abbrev pub day_room : Sizes → Room
 day_room s = record { k = s.walks; labels = s.sites * s.walks; numbers = s.sites }
 
--- the lines of the feed are printed, or it broke off, and then so much is in memory
-abbrev pub ServesDay : List ℕ → Room → Memory TrunkValue TrunkLimits → Option (List ℕ) → Option (List ℕ) → Result (Unit {0}) ServiceError → Type 0
-ServesDay feed room m was is answer = (after : Memory TrunkValue TrunkLimits) × PrintsFeed feed room m was is after answer
+-- the lines of the feed are printed, as it is served on this memory with so much lent to its calls
+abbrev pub PrintsDay : List ℕ → Room → Memory TrunkValue TrunkLimits → Option (List ℕ) → Option (List ℕ) → Type 0
+PrintsDay feed room m was is = (lines : List ℕ) × (after : Memory TrunkValue TrunkLimits) × LinesOf feed room m lines after × Appends was is lines
 
--- the input's first bytes, as many as are read, are a feed, and this is what becomes of it
-abbrev pub ServesInput : Sizes → Option (List ℕ) → Option (List ℕ) → Option (List ℕ) → Option (List ℕ) → Result (Unit {0}) ServiceError → Type 0
-ServesInput s was is printed_before printed_after answer =
-    (feed : List ℕ) × TakesUpTo s.input was is feed × ServesDay feed (day_room s) (opened_day s) printed_before printed_after answer
-
--- The lines of the input are printed. A refusal breaks off at a line that is too long; where the reader or the writer failed, nothing is
--- known; where there was no memory, nothing was read and nothing printed.
-abbrev pub PrintsInput : Sizes → Option (List ℕ) → Option (List ℕ) → Option (List ℕ) → Option (List ℕ) → Result (Unit {0}) ServiceError → Type 0
-PrintsInput s was is printed_before printed_after (Ok done) = ServesInput s was is printed_before printed_after (Ok done)
-PrintsInput s was is printed_before printed_after (Err (ServiceErrors.Refused why)) = ServesInput s was is printed_before printed_after (Err (ServiceErrors.Refused why))
-PrintsInput s was is printed_before printed_after (Err (ServiceErrors.Io error)) = Unit {0}
-PrintsInput s was is printed_before printed_after (Err ServiceErrors.OutOfMemory) = (is ≡ was) × (printed_after ≡ printed_before)
+-- the input's first bytes, as many as are read, are a feed, and its lines are printed
+abbrev pub PrintsInput : Sizes → Option (List ℕ) → Option (List ℕ) → Option (List ℕ) → Option (List ℕ) → Type 0
+PrintsInput s was is printed_before printed_after =
+    (feed : List ℕ) × TakesUpTo s.input was is feed × PrintsDay feed (day_room s) (opened_day s) printed_before printed_after
 
 -- the storage has these sizes, and opening does not refuse them
 pub record LentFor (s : Sizes) (lent : Storage) : Type 0 where

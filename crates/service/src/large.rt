@@ -1,6 +1,7 @@
 //! The same program at full size, with its memory on the heap.
-ghost use Rattle.std.specs.Prelude.{◌≡◌, IfOk, vec_len};
+ghost use Rattle.std.specs.Prelude.{◌≡◌, Err, IfOk, vec_len};
 ghost use Rattle.service.specs.Input.{large, PrintsInput};
+ghost use Rattle.service.specs.declared.ServiceError.TheVariants as ServiceErrors;
 
 use crate::ServiceError;
 use crate::storage::{Sizes, Storage};
@@ -49,7 +50,9 @@ pub fn serve_large_input<R: Read, W: Write>(
     input: &mut R,
     out: &mut W,
 ) -> Result<(), ServiceError>
-    ensures { PrintsInput large (R.Read.remaining input.old) (R.Read.remaining input.new) (W.Write.contents out.old) (W.Write.contents out.new) result }
+    ensures printed { IfOk result (λ _. PrintsInput large (R.Read.remaining input.old) (R.Read.remaining input.new) (W.Write.contents out.old) (W.Write.contents out.new)) }
+    ensures unread { result ≡ Err ServiceErrors.OutOfMemory → R.Read.remaining input.new ≡ R.Read.remaining input.old }
+    ensures unwritten { result ≡ Err ServiceErrors.OutOfMemory → W.Write.contents out.new ≡ W.Write.contents out.old }
 {
     let mut buffer = lend(alloc, 0u8, INPUT)?;
     let mut links = lend(alloc, None, PLACES)?;
@@ -65,5 +68,6 @@ pub fn serve_large_input<R: Read, W: Write>(
         reply: &mut reply,
         input: &mut buffer,
     };
-    storage.serve(SIZES, input, out)
+    storage.serve(SIZES, input, out)?;
+    Ok(())
 }

@@ -10,7 +10,6 @@ use catalogue::{Ask, Link, Route};
 use line::Reply as Printed;
 use measure::pair::{Trunk, TrunkLimit, trunk_limits, trunk_value};
 use records::{Measures, Record};
-use report::Refusal;
 use std::alloc::AllocError;
 use std::io;
 use thiserror::Error;
@@ -21,7 +20,6 @@ mod large;
 mod serving;
 mod storage;
 
-pub use feeds::print_line;
 pub use input::{read_input, serve_input};
 pub use large::serve_large_input;
 pub use serving::Service;
@@ -29,8 +27,6 @@ pub use serving::Service;
 // Why the lines of a feed were not written to their end.
 #[derive(Debug, Drop, Error)]
 pub enum ServiceError {
-    #[error("turned down: {0:?}")]
-    Refused(Refusal),
     #[error("the input or the output failed: {0}")]
     Io(io::Error),
     #[error("out of memory")]
@@ -38,14 +34,6 @@ pub enum ServiceError {
 }
 
 // The conversions are written out, since a derived one promises nothing, and contracts say which error came.
-impl From<Refusal> for ServiceError {
-    ghost from_gives = { λ why e. e ≡ ServiceErrors.Refused why };
-
-    fn from(why: Refusal) -> ServiceError {
-        ServiceError::Refused(why)
-    }
-}
-
 impl From<io::Error> for ServiceError {
     ghost from_gives = { λ error e. e ≡ ServiceErrors.Io error };
 

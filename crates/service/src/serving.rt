@@ -1,6 +1,6 @@
 //! What serves the records of a feed: the trunk product's catalogue and quote book, with the memory that is lent to their calls.
-ghost use Rattle.std.specs.Prelude.{◌≡◌, take};
-ghost use Rattle.service.specs.Serving.{Served, printed};
+ghost use Rattle.std.specs.Prelude.{◌≡◌, ◌<◌, length, take};
+ghost use Rattle.service.specs.Serving.{Served, printed, Legible};
 ghost use Rattle.service.specs.Services.{memory_in, lent_by, Performed, SameService};
 
 use crate::{call_of, card_read, print};
@@ -32,8 +32,10 @@ impl Service<'_, '_> {
     }
 
     // Carries out the record's call. What is answered of a card is what a reading of it gives, so that its legs stand in the reply.
+    #[tactic(auto, using(crate::proofs::Reading::ends))]
     pub fn serve(&mut self, record: Record) -> Reply<Trunk>
         ensures served { Served (memory_in self.old) (lent_by self.old) «record» self.old.k result (memory_in self.new) (lent_by self.new) }
+        ensures legible { Legible result self.new.reply.now }
         ensures same { SameService self.old self.new }
     {
         let answer = self.perform(call_of(record, self.k));
@@ -43,12 +45,14 @@ impl Service<'_, '_> {
         }
     }
 
-    // What is printed of a reply, and the legs of its route: the first numbers of those that are lent, or all where there are fewer.
+    // What is printed of a reply, and the legs of its route: the first numbers of those that are lent.
     pub(crate) fn printed(&self, reply: Reply<Trunk>) -> (Printed, &[u16])
+        requires { Legible reply self.now.reply.now }
         ensures printed { result.0 ≡ (printed reply).0 }
         ensures legs { result.1.now ≡ take (printed reply).1 self.now.reply.now }
+        ensures few { length result.1.now < 256 }
     {
         let (printed, count) = print(reply);
-        (printed, &self.reply[..count.min(self.reply.len())])
+        (printed, &self.reply[..count])
     }
 }

@@ -1,18 +1,18 @@
 //! The memory of a program, and what becomes of an input that is served over it.
-ghost use Rattle.std.specs.Prelude.{◌≡◌, ◌≢◌, Err};
+ghost use Rattle.std.specs.Prelude.{IfOk};
 ghost use Rattle.book.specs.Stores.{memory_of};
 ghost use Rattle.routing.specs.Lent.{labels_of};
 ghost use Rattle.service.specs.Services.{room_of};
-ghost use Rattle.service.specs.Input.{LentFor, ServesDay, PrintsInput};
-ghost use Rattle.service.specs.declared.ServiceError.TheVariants as ServiceErrors;
+ghost use Rattle.service.specs.Input.{LentFor, PrintsDay, PrintsInput};
 
-use crate::{Service, ServiceError, read_input};
+use crate::{Service, read_input};
 use cards::Card;
-use catalogue::{Catalogue, Link, check_size};
+use catalogue::{Catalogue, Link};
 use labels::Slot;
 use measure::pair::{Trunk, TrunkLimit};
-use quotes::{QuoteBook, check_book_size};
+use quotes::QuoteBook;
 use routing::Workspace;
+use std::io;
 use std::io::{Read, Write};
 
 // How large a program is: its sites, link places and cards, how many walks routing can hold at a site, and how many bytes of input it reads.
@@ -47,8 +47,8 @@ fn serve_day<'s, 'm, W: Write>(
     reply: &'s mut [u16],
     out: &mut W,
     feed: &[u8],
-) -> Result<(), ServiceError>
-    ensures { ServesDay feed.now (room_of k (labels_of labels.old) reply.old) (memory_of catalogue.old book.old) (W.Write.contents out.old) (W.Write.contents out.new) result }
+) -> io::Result<()>
+    ensures { IfOk result (λ _. PrintsDay feed.now (room_of k (labels_of labels.old) reply.old) (memory_of catalogue.old book.old) (W.Write.contents out.old) (W.Write.contents out.new)) }
 {
     let mut service = Service {
         catalogue,
@@ -62,22 +62,19 @@ fn serve_day<'s, 'm, W: Write>(
 
 impl Storage<'_> {
     // Opens a catalogue and a quote book, reads the input up to the end of the room for it, and writes a line for each record. No memory
-    // is taken.
+    // is taken, and that opening does not refuse the sizes is proved beforehand.
     pub(crate) fn serve<R: Read, W: Write>(
         &mut self,
         sizes: Sizes,
         input: &mut R,
         out: &mut W,
-    ) -> Result<(), ServiceError>
+    ) -> io::Result<()>
         requires { LentFor sizes self.old }
-        ensures printed { PrintsInput sizes (R.Read.remaining input.old) (R.Read.remaining input.new) (W.Write.contents out.old) (W.Write.contents out.new) result }
-        ensures memory { result ≢ Err ServiceErrors.OutOfMemory }
+        ensures { IfOk result (λ _. PrintsInput sizes (R.Read.remaining input.old) (R.Read.remaining input.new) (W.Write.contents out.old) (W.Write.contents out.new)) }
     {
         // Each slice is taken into a variable first: a loan of one in its field would stand in the way of the others.
         let (links, cards, rows) = (&mut *self.links, &mut *self.cards, &mut *self.rows);
         let (labels, reply, buffer) = (&mut *self.labels, &mut *self.reply, &mut *self.input);
-        check_size(sizes.sites, sizes.places)?;
-        check_book_size(sizes.sites, sizes.cards, rows.len())?;
         rows.fill(0);
         let mut catalogue = Catalogue::open(links, sizes.sites);
         let mut book = QuoteBook::open(cards, rows, sizes.sites);

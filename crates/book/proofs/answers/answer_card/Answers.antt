@@ -58,12 +58,14 @@ invariant_of-book-2 g c =
     let n = network_of c.args.catalogue.now in
     let ask = c.args.ask in
     let adm = admits K n.sites (length c.args.labels.now.slots.now) c.args.k ask q.sites c.requires.free in
-    let (legs, found, few, rows) = c.in_ok-answer.ensures.answer in
+    let (legs, found, room, rows) = c.in_ok-answer.ensures.answer in
+    let sound = c.args.catalogue.now.sound in
     let card = card_of ask c.in_ok-answer.answer c.args.mark in
     let fit : SoundCard K q.sites card = record {
       source_in = omega (arith, adm.source, adm.fits);
       destination_in = omega (arith, adm.destination, adm.fits);
       admitted = adm.limit;
-      short = found_few K n ask q.sites c.args.catalogue.now.sound adm.source adm.fits c.in_ok-answer.answer legs found;
+      short = found_few K n ask q.sites sound adm.source adm.fits c.in_ok-answer.answer legs found;
+      few = found_few K n ask 256 sound adm.source sound.sites_few c.in_ok-answer.answer legs found;
     } in
     record { sound = sound_write q.sound c.args.card (Some card) c.write_place.new.places c.find_in_row.new.rows c.requires.inside c.write_place.ensures c.find_in_row.auto.rows (λ x e. subst (λ (y : Card g.row.M.Denot g.row.M-Limit.Denot). SoundCard K q.sites y) (some_same e) fit) }

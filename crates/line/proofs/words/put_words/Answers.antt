@@ -21,4 +21,4 @@ pub loop-leg-preserved : goal.loop-leg-preserved
 loop-leg-preserved g c =
     let both = g.met.S.Sink.both in
     let more = word_more decimal c.args.legs.now c.loop-leg.leg-index 0 (map spelled c.args.words.now) c.loop-leg-test.true in
-    rw more (both _ _ _ _ _ c.loop-leg.invariant (both _ _ _ (codes " ") _ c.put-in-loop-leg.ensures c.put_number.ensures))
+    rw more (both _ _ _ _ _ c.loop-leg.invariant (both _ _ _ (codes " ") _ c.put-in-loop-leg.ensures c.put_number.ensures.digits))

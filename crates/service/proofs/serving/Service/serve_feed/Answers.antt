@@ -24,17 +24,16 @@ returns-in-Err-clause-printed g c =
     let (range, gave) = c.in-Some.ensures.steps in
     let e : c.in-Some.number ≡ number + 1 = cc in
     let o : records_from c.args.feed.now start ≡ Err c.in-Err.why ∷ unread (zip_second c.next.new.self) = cc in
-    printed_last _ _ _ _ _ first wrote c.print_line.result (record { why = c.in-Err.why; reads = is_refusal c.args.feed.now start o; prints = refl }) (rw e at c.print_line.ensures)
+    printed_last _ _ _ _ first _ c.print_line.result wrote (record { why = c.in-Err.why; reads = is_refusal c.args.feed.now start o; prints = refl }) (rw e at c.print_line.ensures)
 
 pub returns-in_err-serve_record-in-Ok-clause-printed : goal.returns-in_err-serve_record-in-Ok-clause-printed
 returns-in_err-serve_record-in-Ok-clause-printed g c =
     let (number, start, lines, count, left, first, wrote) = c.loop-number.invariant.served in
     let (range, gave) = c.in-Some.ensures.steps in
     let (reply, served, printed) = c.serve_record.ensures.printed in
-    let e : c.in-Some.number ≡ number + 1 = cc in
     let o : records_from c.args.feed.now start ≡ Ok c.in-Ok.record ∷ unread (zip_second c.next.new.self) = cc in
-    broke_off _ _ _ _ _ first wrote c.serve_record.result c.from_residual.result _ c.in_err-serve_record-in-Ok.was c.from_residual.ensures.1
-    (next_served c.serve_record.new.self (is_record c.args.feed.now start o).0 c.loop-number.invariant.same served) (rw e at printed)
+    broke_off _ _ _ _ first _ c.from_residual.result c.from_residual.ensures.1
+    (next_served c.serve_record.new.self (is_record c.args.feed.now start o).0 c.loop-number.invariant.same served)
 
 pub loop-number-preserved : goal.loop-number-preserved
 loop-number-preserved g c =

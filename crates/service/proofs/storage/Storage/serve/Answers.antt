@@ -6,8 +6,8 @@ use Rattle.service.specs.Services.{room_of}
 use Rattle.service.proofs.Printing.{prints_day}
 use Rattle.service.proofs.storage.Storage.serve.Goals as goal
 
-pub returns-clause-printed : goal.returns-clause-printed
-returns-clause-printed g c =
+pub returns : goal.returns
+returns g c =
     let held = c.args.self.now in
     let room : length c.new-workspace.result.slots.now ≡ length held.labels.now = ap length c.new-workspace.ensures.labels ∙ length-map held.labels.now freed in
     prints_day c.args.sizes _ _ _ _ c.read_input.new.buffer c.in_ok-got.got (room_of c.args.sizes.walks c.new-workspace.result.slots.now held.reply.now)
