@@ -1,4 +1,4 @@
-//! The calls that look for a card's best route. The caller lends the labels to each call, so that they and k are parameters beside what is asked.
+//! The calls that look for a card's best route. The caller lends a workspace to each call, so that it and k are parameters beside what is asked.
 ghost use Rattle.std.specs.Prelude.{◌≡◌, ◌+◌, ◌<◌, ◌≤◌, [], ◌∷◌, length, drop, None, Ok};
 ghost use Rattle.report.specs.declared.Refusal.TheVariants.{CardEmpty};
 ghost use Rattle.report.specs.Refusals.{topmost, unless, filled_or};
@@ -75,7 +75,7 @@ fn check_recheck<M: Measure>(
 // Looks for the best route, and writes its legs to the row that begins at the start place: rows lie in one slice, by number.
 fn find_in_row<M: Measure, N: Links<M>>(
     network: &N,
-    labels: &mut Workspace<'_, M>,
+    workspace: &mut Workspace<'_, M>,
     k: usize,
     ask: Ask<M::Limit>,
     rows: &mut [u16],
@@ -83,35 +83,35 @@ fn find_in_row<M: Measure, N: Links<M>>(
     width: usize,
 ) -> Result<Option<Route<M>>, Refusal>
     requires inside { start + width ≤ length rows.old }
-    requires free { topmost (route_causes M.Measure.kind (N.Links.span network.now) (length (labels_of labels.old)) k ask width) ≡ None }
-    ensures same { SameWorkspace labels.old labels.new }
-    ensures labels { Emptied M.Measure.kind (labels_of labels.new) }
+    requires free { topmost (route_causes M.Measure.kind (N.Links.span network.now) (length (labels_of workspace.old)) k ask width) ≡ None }
+    ensures same { SameWorkspace workspace.old workspace.new }
+    ensures labels { Emptied M.Measure.kind (labels_of workspace.new) }
     ensures answer { RowAnswer M.Measure.kind (network_with (N.Links.span network.now) (N.Links.links network.now)) k ask rows.old start width result rows.new }
 {
     let row = &mut rows[start..start + width];
-    find_route(network, labels, k, ask, row)
+    find_route(network, workspace, k, ask, row)
 }
 
 // Looks for the card's best route, and files the card with this mark.
 fn answer_card<M: Measure>(
     catalogue: &Catalogue<'_, M>,
     book: &mut QuoteBook<'_, M>,
-    labels: &mut Workspace<'_, M>,
+    workspace: &mut Workspace<'_, M>,
     card: usize,
     ask: Ask<M::Limit>,
     k: usize,
     mark: Mark,
 ) -> Result<Option<Route<M>>, Refusal>
     requires inside { card < length book.old.cards.now }
-    requires free { topmost (route_causes M.Measure.kind (sites_of catalogue.now) (length (labels_of labels.old)) k ask (book_of book.old).width) ≡ None }
-    ensures same { SameWorkspace labels.old labels.new }
-    ensures labels { Emptied M.Measure.kind (labels_of labels.new) }
+    requires free { topmost (route_causes M.Measure.kind (sites_of catalogue.now) (length (labels_of workspace.old)) k ask (book_of book.old).width) ≡ None }
+    ensures same { SameWorkspace workspace.old workspace.new }
+    ensures labels { Emptied M.Measure.kind (labels_of workspace.new) }
     ensures answer { CardAnswer M.Measure.kind (network_of catalogue.now) k ask mark (book_of book.old) card result (book_of book.new) }
     ensures places { SamePlaces book.old book.new }
 {
     let width = book.width();
     let start = book.row_start(card);
-    let answer = find_in_row(catalogue, labels, k, ask, book.rows, start, width)?;
+    let answer = find_in_row(catalogue, workspace, k, ask, book.rows, start, width)?;
     write_place(book.cards, card, Some(Card { ask, answer, mark }));
     Ok(answer)
 }
@@ -121,18 +121,19 @@ fn answer_card<M: Measure>(
 pub fn quote<M: Measure>(
     catalogue: &Catalogue<'_, M>,
     book: &mut QuoteBook<'_, M>,
-    labels: &mut Workspace<'_, M>,
+    workspace: &mut Workspace<'_, M>,
     card: usize,
     ask: Ask<M::Limit>,
     k: usize,
 ) -> Result<Option<Route<M>>, Refusal>
-    ensures outcome { Quoted M.Measure.kind (network_of catalogue.now) (book_of book.old) (labels_of labels.old) card ask k result (book_of book.new) (labels_of labels.new) }
+    ensures outcome { Quoted M.Measure.kind (network_of catalogue.now) (book_of book.old) (labels_of workspace.old) card ask k
+        result (book_of book.new) (labels_of workspace.new) }
     ensures places { SamePlaces book.old book.new }
-    ensures same { SameWorkspace labels.old labels.new }
+    ensures same { SameWorkspace workspace.old workspace.new }
 {
     check_sites(catalogue, &*book)?;
-    check_quote(catalogue, &*book, labels.room(), card, ask, k)?;
-    answer_card(catalogue, book, labels, card, ask, k, Mark::Standing)
+    check_quote(catalogue, &*book, workspace.room(), card, ask, k)?;
+    answer_card(catalogue, book, workspace, card, ask, k, Mark::Standing)
 }
 
 // Finds the best route of a doubtful card anew; what a standing card has is answered as it is.
@@ -140,22 +141,23 @@ pub fn quote<M: Measure>(
 pub fn recheck<M: Measure>(
     catalogue: &Catalogue<'_, M>,
     book: &mut QuoteBook<'_, M>,
-    labels: &mut Workspace<'_, M>,
+    workspace: &mut Workspace<'_, M>,
     card: usize,
     k: usize,
 ) -> Result<Option<Route<M>>, Refusal>
-    ensures outcome { Rechecked M.Measure.kind (network_of catalogue.now) (book_of book.old) (labels_of labels.old) card k result (book_of book.new) (labels_of labels.new) }
+    ensures outcome { Rechecked M.Measure.kind (network_of catalogue.now) (book_of book.old) (labels_of workspace.old) card k
+        result (book_of book.new) (labels_of workspace.new) }
     ensures places { SamePlaces book.old book.new }
-    ensures same { SameWorkspace labels.old labels.new }
+    ensures same { SameWorkspace workspace.old workspace.new }
 {
     check_sites(catalogue, &*book)?;
-    let Card { ask, answer, mark } = check_recheck(catalogue, &*book, labels.room(), card, k)?;
+    let Card { ask, answer, mark } = check_recheck(catalogue, &*book, workspace.room(), card, k)?;
     match mark {
         Mark::Standing => Ok(answer),
         Mark::Doubtful => answer_card(
             catalogue,
             book,
-            labels,
+            workspace,
             card,
             ask,
             k,

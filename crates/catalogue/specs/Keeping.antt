@@ -12,12 +12,12 @@ abbrev pub links_of : {V L : Type 0} {g : _} → Catalogue V L g → List (Optio
 links_of c = c.links.now
 
 -- the memory that was lent for the places, by the name of the borrow: its lender reads there what they hold in the end
-abbrev pub places_of : {V L : Type 0} {g : _} → Catalogue V L g → ℕ
-places_of c = c.links.ghost_name
+abbrev pub links_lent : {V L : Type 0} {g : _} → Catalogue V L g → ℕ
+links_lent c = c.links.ghost_name
 
 -- the places are the same memory as before, whatever they hold
 abbrev pub SameLinks : {V L : Type 0} {g : _} → Catalogue V L g → Catalogue V L g → Type 0
-SameLinks was is = places_of is ≡ places_of was
+SameLinks was is = links_lent is ≡ links_lent was
 
 -- as many sites as before, and the same memory
 pub record Keeps {V L : Type 0} {g : _} (was is : Catalogue V L g) : Type 0 where

@@ -147,13 +147,13 @@ fn remove_at<M: Measure>(links: &mut [Option<Link<M>>], place: usize) -> Result<
 }
 
 impl<'a, M: Measure> Catalogue<'a, M> {
-    ghost use Rattle.catalogue.specs.Keeping.{sites_of, links_of, places_of};
+    ghost use Rattle.catalogue.specs.Keeping.{sites_of, links_of, links_lent};
 
     // Empties every place. The size is for `check_size` to refuse beforehand; this cannot refuse, and of a size that is refused there are no sites.
     pub fn open(links: &'a mut [Option<Link<M>>], sites: usize) -> Catalogue<'a, M>
         ensures links { links_of result ≡ replicate (length links.old) None }
         ensures sites { sites_of result ≡ opened_sites sites (length links.old) }
-        ensures same { places_of result ≡ links.entry.ghost_name }
+        ensures same { links_lent result ≡ links.entry.ghost_name }
     {
         let sites = opened_sites(sites, links.len());
         empty_all(links);

@@ -18,7 +18,8 @@ pub fn offer<M: Measure>(
     place: usize,
     link: Link<M>,
 ) -> Result<usize, Refusal>
-    ensures outcome { Offered M.Measure.kind (network_of catalogue.old) (book_of book.old) place link result (network_of catalogue.new) (book_of book.new) }
+    ensures outcome { Offered M.Measure.kind (network_of catalogue.old) (book_of book.old) place link
+        result (network_of catalogue.new) (book_of book.new) }
     ensures links { SameLinks catalogue.old catalogue.new }
     ensures places { SamePlaces book.old book.new }
 {
@@ -35,7 +36,8 @@ pub fn change<M: Measure>(
     place: usize,
     value: M,
 ) -> Result<usize, Refusal>
-    ensures outcome { Changed M.Measure.kind (network_of catalogue.old) (book_of book.old) place value result (network_of catalogue.new) (book_of book.new) }
+    ensures outcome { Changed M.Measure.kind (network_of catalogue.old) (book_of book.old) place value
+        result (network_of catalogue.new) (book_of book.new) }
     ensures links { SameLinks catalogue.old catalogue.new }
     ensures places { SamePlaces book.old book.new }
 {
@@ -58,7 +60,8 @@ pub fn withdraw<M: Measure>(
     book: &mut QuoteBook<'_, M>,
     place: usize,
 ) -> Result<usize, Refusal>
-    ensures outcome { Withdrawn M.Measure.kind (network_of catalogue.old) (book_of book.old) place result (network_of catalogue.new) (book_of book.new) }
+    ensures outcome { Withdrawn M.Measure.kind (network_of catalogue.old) (book_of book.old) place
+        result (network_of catalogue.new) (book_of book.new) }
     ensures links { SameLinks catalogue.old catalogue.new }
     ensures places { SamePlaces book.old book.new }
 {

@@ -28,14 +28,15 @@ fn standing<M: Copy>(answer: Option<Route<M>>) -> Answer<M>
 fn carry_out<M: Measure>(
     catalogue: &mut Catalogue<'_, M>,
     book: &mut QuoteBook<'_, M>,
-    labels: &mut Workspace<'_, M>,
+    workspace: &mut Workspace<'_, M>,
     reply: &mut [u16],
     call: Call<M, M::Limit>,
 ) -> Reply<M>
-    ensures outcome { Outcome M.Measure.kind (memory_of catalogue.old book.old) (lent (labels_of labels.old) reply.old) call result (memory_of catalogue.new book.new) (lent (labels_of labels.new) reply.new) }
+    ensures outcome { Outcome M.Measure.kind (memory_of catalogue.old book.old) (lent (labels_of workspace.old) reply.old) call
+        result (memory_of catalogue.new book.new) (lent (labels_of workspace.new) reply.new) }
     ensures links { SameLinks catalogue.old catalogue.new }
     ensures places { SamePlaces book.old book.new }
-    ensures labels { SameWorkspace labels.old labels.new }
+    ensures workspace { SameWorkspace workspace.old workspace.new }
 {
     match call {
         Call::Offer { place, link } => Ok(Answer::Counted(offer(catalogue, book, place, link)?)),
@@ -46,12 +47,12 @@ fn carry_out<M: Measure>(
         Call::Quote { card, ask, k } => Ok(standing(quote(
             &*catalogue,
             book,
-            labels,
+            workspace,
             card,
             ask,
             k,
         )?)),
-        Call::Recheck { card, k } => Ok(standing(recheck(&*catalogue, book, labels, card, k)?)),
+        Call::Recheck { card, k } => Ok(standing(recheck(&*catalogue, book, workspace, card, k)?)),
         Call::Discard { card } => {
             discard(book, card)?;
             Ok(Answer::Counted(0))
@@ -69,16 +70,17 @@ fn carry_out<M: Measure>(
 pub fn perform<M: Measure>(
     catalogue: &mut Catalogue<'_, M>,
     book: &mut QuoteBook<'_, M>,
-    labels: &mut Workspace<'_, M>,
+    workspace: &mut Workspace<'_, M>,
     reply: &mut [u16],
     call: Call<M, M::Limit>,
 ) -> Reply<M>
-    ensures outcome { Outcome M.Measure.kind (memory_of catalogue.old book.old) (lent (labels_of labels.old) reply.old) call result (memory_of catalogue.new book.new) (lent (labels_of labels.new) reply.new) }
-    ensures causes_in_order { InOrder (causes_of M.Measure.kind (memory_of catalogue.old book.old) (lent (labels_of labels.old) reply.old) call) }
+    ensures outcome { Outcome M.Measure.kind (memory_of catalogue.old book.old) (lent (labels_of workspace.old) reply.old) call
+        result (memory_of catalogue.new book.new) (lent (labels_of workspace.new) reply.new) }
+    ensures causes_in_order { InOrder (causes_of M.Measure.kind (memory_of catalogue.old book.old) (lent (labels_of workspace.old) reply.old) call) }
     ensures no_better_route { Continues M.Measure.kind (memory_of catalogue.old book.old) call result (memory_of catalogue.new book.new) }
     ensures links { SameLinks catalogue.old catalogue.new }
     ensures places { SamePlaces book.old book.new }
-    ensures labels { SameWorkspace labels.old labels.new }
+    ensures workspace { SameWorkspace workspace.old workspace.new }
 {
-    carry_out(catalogue, book, labels, reply, call)
+    carry_out(catalogue, book, workspace, reply, call)
 }

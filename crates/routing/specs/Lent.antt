@@ -8,10 +8,10 @@ abbrev pub labels_of : {V L : Type 0} {g : _} → Workspace V L g → List (Slot
 labels_of w = w.slots.now
 
 -- the memory that was lent for the labels, by the name of the borrow
-abbrev pub memory_of : {V L : Type 0} {g : _} → Workspace V L g → ℕ
-memory_of w = w.slots.ghost_name
+abbrev pub labels_lent : {V L : Type 0} {g : _} → Workspace V L g → ℕ
+labels_lent w = w.slots.ghost_name
 
 -- the labels are the same memory as before, and as many
 pub record SameWorkspace {V L : Type 0} {g : _} (was is : Workspace V L g) : Type 0 where
-  pub same : memory_of is ≡ memory_of was
+  pub same : labels_lent is ≡ labels_lent was
   pub room : length (labels_of is) ≡ length (labels_of was)

@@ -15,12 +15,12 @@ pub struct Workspace<'a, M: Measure> {
 }
 
 impl<'a, M: Measure> Workspace<'a, M> {
-    ghost use Rattle.routing.specs.Lent.{labels_of, memory_of};
+    ghost use Rattle.routing.specs.Lent.{labels_of, labels_lent};
 
     // Frees every place.
     pub fn new(slots: &'a mut [Slot<M>]) -> Workspace<'a, M>
         ensures labels { labels_of result ≡ map freed slots.old }
-        ensures same { memory_of result ≡ slots.entry.ghost_name }
+        ensures same { labels_lent result ≡ slots.entry.ghost_name }
     {
         free_all(slots);
         Workspace { slots }

@@ -166,7 +166,8 @@ pub fn find_route<M: Measure, N: Links<M>>(
     ask: Ask<M::Limit>,
     row: &mut [u16],
 ) -> Result<Option<Route<M>>, Refusal>
-    ensures searched { Searched M.Measure.kind (N.Links.span network.now) (N.Links.links network.now) k ask (labels_of workspace.old) (labels_of workspace.new) row.old row.new result }
+    ensures searched { Searched M.Measure.kind (N.Links.span network.now) (N.Links.links network.now) k ask
+        (labels_of workspace.old) (labels_of workspace.new) row.old row.new result }
     ensures causes_in_order { InOrder (route_causes M.Measure.kind (N.Links.span network.now) (length (labels_of workspace.old)) k ask (length row.old)) }
     ensures same { SameWorkspace workspace.old workspace.new }
 {

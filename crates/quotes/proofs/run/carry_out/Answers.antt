@@ -12,7 +12,7 @@ returns-in_err-offer-in-Offer g c =
       outcome = on_offer c.in-Offer.is c.offer.ensures.outcome (exits (err_from_is_err_and exit.result exit.ensures.1) ∙ ap counted (sym c.in_err-offer-in-Offer.was));
       links = c.offer.ensures.links;
       places = c.offer.ensures.places;
-      labels = record { same = refl; room = refl };
+      workspace = record { same = refl; room = refl };
     }
 
 pub returns-in_ok-offer-in-Offer : goal.returns-in_ok-offer-in-Offer
@@ -20,7 +20,7 @@ returns-in_ok-offer-in-Offer g c = record {
   outcome = on_offer c.in-Offer.is c.offer.ensures.outcome (ap counted (sym c.in_ok-offer-in-Offer.was));
   links = c.offer.ensures.links;
   places = c.offer.ensures.places;
-  labels = record { same = refl; room = refl };
+  workspace = record { same = refl; room = refl };
 }
 
 pub returns-in_err-change-in-Change : goal.returns-in_err-change-in-Change
@@ -30,7 +30,7 @@ returns-in_err-change-in-Change g c =
       outcome = on_change c.in-Change.is c.change.ensures.outcome (exits (err_from_is_err_and exit.result exit.ensures.1) ∙ ap counted (sym c.in_err-change-in-Change.was));
       links = c.change.ensures.links;
       places = c.change.ensures.places;
-      labels = record { same = refl; room = refl };
+      workspace = record { same = refl; room = refl };
     }
 
 pub returns-in_ok-change-in-Change : goal.returns-in_ok-change-in-Change
@@ -38,7 +38,7 @@ returns-in_ok-change-in-Change g c = record {
   outcome = on_change c.in-Change.is c.change.ensures.outcome (ap counted (sym c.in_ok-change-in-Change.was));
   links = c.change.ensures.links;
   places = c.change.ensures.places;
-  labels = record { same = refl; room = refl };
+  workspace = record { same = refl; room = refl };
 }
 
 pub returns-in_err-withdraw-in-Withdraw : goal.returns-in_err-withdraw-in-Withdraw
@@ -48,7 +48,7 @@ returns-in_err-withdraw-in-Withdraw g c =
       outcome = on_withdrawal c.in-Withdraw.is c.withdraw.ensures.outcome (exits (err_from_is_err_and exit.result exit.ensures.1) ∙ ap counted (sym c.in_err-withdraw-in-Withdraw.was));
       links = c.withdraw.ensures.links;
       places = c.withdraw.ensures.places;
-      labels = record { same = refl; room = refl };
+      workspace = record { same = refl; room = refl };
     }
 
 pub returns-in_ok-withdraw-in-Withdraw : goal.returns-in_ok-withdraw-in-Withdraw
@@ -56,7 +56,7 @@ returns-in_ok-withdraw-in-Withdraw g c = record {
   outcome = on_withdrawal c.in-Withdraw.is c.withdraw.ensures.outcome (ap counted (sym c.in_ok-withdraw-in-Withdraw.was));
   links = c.withdraw.ensures.links;
   places = c.withdraw.ensures.places;
-  labels = record { same = refl; room = refl };
+  workspace = record { same = refl; room = refl };
 }
 
 pub returns-in_err-quote-in-Quote : goal.returns-in_err-quote-in-Quote
@@ -66,7 +66,7 @@ returns-in_err-quote-in-Quote g c =
       outcome = on_quote c.in-Quote.is c.quote.ensures.outcome (exits (err_from_is_err_and exit.result exit.ensures.1) ∙ ap answered (sym c.in_err-quote-in-Quote.was));
       links = refl;
       places = c.quote.ensures.places;
-      labels = c.quote.ensures.same;
+      workspace = c.quote.ensures.same;
     }
 
 pub returns-in_ok-quote-in-Quote : goal.returns-in_ok-quote-in-Quote
@@ -74,7 +74,7 @@ returns-in_ok-quote-in-Quote g c = record {
   outcome = on_quote c.in-Quote.is c.quote.ensures.outcome (ap Ok c.standing.ensures ∙ ap answered (sym c.in_ok-quote-in-Quote.was));
   links = refl;
   places = c.quote.ensures.places;
-  labels = c.quote.ensures.same;
+  workspace = c.quote.ensures.same;
 }
 
 pub returns-in_err-recheck-in-Recheck : goal.returns-in_err-recheck-in-Recheck
@@ -84,7 +84,7 @@ returns-in_err-recheck-in-Recheck g c =
       outcome = on_recheck c.in-Recheck.is c.recheck.ensures.outcome (exits (err_from_is_err_and exit.result exit.ensures.1) ∙ ap answered (sym c.in_err-recheck-in-Recheck.was));
       links = refl;
       places = c.recheck.ensures.places;
-      labels = c.recheck.ensures.same;
+      workspace = c.recheck.ensures.same;
     }
 
 pub returns-in_ok-recheck-in-Recheck : goal.returns-in_ok-recheck-in-Recheck
@@ -92,7 +92,7 @@ returns-in_ok-recheck-in-Recheck g c = record {
   outcome = on_recheck c.in-Recheck.is c.recheck.ensures.outcome (ap Ok c.standing-in-Recheck.ensures ∙ ap answered (sym c.in_ok-recheck-in-Recheck.was));
   links = refl;
   places = c.recheck.ensures.places;
-  labels = c.recheck.ensures.same;
+  workspace = c.recheck.ensures.same;
 }
 
 pub returns-in_err-discard-in-Discard : goal.returns-in_err-discard-in-Discard
@@ -102,7 +102,7 @@ returns-in_err-discard-in-Discard g c =
       outcome = on_discard c.in-Discard.is c.discard.ensures.outcome (exits (err_from_is_err_and exit.result exit.ensures.1) ∙ ap emptied (sym c.in_err-discard-in-Discard.was));
       links = refl;
       places = c.discard.ensures.places;
-      labels = record { same = refl; room = refl };
+      workspace = record { same = refl; room = refl };
     }
 
 pub returns-in_ok-discard-in-Discard : goal.returns-in_ok-discard-in-Discard
@@ -110,7 +110,7 @@ returns-in_ok-discard-in-Discard g c = record {
   outcome = on_discard c.in-Discard.is c.discard.ensures.outcome (ap emptied (sym c.in_ok-discard-in-Discard.was));
   links = refl;
   places = c.discard.ensures.places;
-  labels = record { same = refl; room = refl };
+  workspace = record { same = refl; room = refl };
 }
 
 pub returns-in_err-mark-in-Read : goal.returns-in_err-mark-in-Read
@@ -120,7 +120,7 @@ returns-in_err-mark-in-Read g c =
       outcome = on_reading c.in-Read.is c.read.ensures (exits (err_from_is_err_and exit.result exit.ensures.1) ∙ ap showing (sym c.in_err-mark-in-Read.was));
       links = refl;
       places = (refl, refl);
-      labels = record { same = refl; room = refl };
+      workspace = record { same = refl; room = refl };
     }
 
 pub returns-in_ok-mark-in-Read : goal.returns-in_ok-mark-in-Read
@@ -128,5 +128,5 @@ returns-in_ok-mark-in-Read g c = record {
   outcome = on_reading c.in-Read.is c.read.ensures (ap showing (sym c.in_ok-mark-in-Read.was));
   links = refl;
   places = (refl, refl);
-  labels = record { same = refl; room = refl };
+  workspace = record { same = refl; room = refl };
 }
