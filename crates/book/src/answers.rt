@@ -126,8 +126,8 @@ pub fn quote<M: Measure>(
     ask: Ask<M::Limit>,
     k: usize,
 ) -> Result<Option<Route<M>>, Refusal>
-    ensures outcome { Quoted M.Measure.kind (network_of catalogue.now) (book_of book.old) (labels_of workspace.old) card ask k
-        result (book_of book.new) (labels_of workspace.new) }
+    ensures outcome { Quoted M.Measure.kind (network_of catalogue.now)
+        (book_of book.old) (labels_of workspace.old) card ask k result (book_of book.new) (labels_of workspace.new) }
     ensures places { SamePlaces book.old book.new }
     ensures same { SameWorkspace workspace.old workspace.new }
 {
@@ -145,8 +145,8 @@ pub fn recheck<M: Measure>(
     card: usize,
     k: usize,
 ) -> Result<Option<Route<M>>, Refusal>
-    ensures outcome { Rechecked M.Measure.kind (network_of catalogue.now) (book_of book.old) (labels_of workspace.old) card k
-        result (book_of book.new) (labels_of workspace.new) }
+    ensures outcome { Rechecked M.Measure.kind (network_of catalogue.now)
+        (book_of book.old) (labels_of workspace.old) card k result (book_of book.new) (labels_of workspace.new) }
     ensures places { SamePlaces book.old book.new }
     ensures same { SameWorkspace workspace.old workspace.new }
 {

@@ -109,7 +109,8 @@ impl<'a, M: Measure> QuoteBook<'a, M> {
         rows: &'a mut [u16],
         sites: usize,
     ) -> QuoteBook<'a, M>
-        ensures book { book_of result ≡ opened_book (row_width sites (length cards.old) (length rows.old)) (length cards.old) rows.old }
+        ensures book { book_of result ≡ opened_book
+            (row_width sites (length cards.old) (length rows.old)) (length cards.old) rows.old }
         ensures begins { Begins M.Measure.kind sites (length cards.old) (length rows.old) (book_of result) }
         ensures same_cards { cards_lent result ≡ cards.entry.ghost_name }
         ensures same_rows { rows_lent result ≡ rows.entry.ghost_name }

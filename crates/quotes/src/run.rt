@@ -32,8 +32,9 @@ fn carry_out<M: Measure>(
     reply: &mut [u16],
     call: Call<M, M::Limit>,
 ) -> Reply<M>
-    ensures outcome { Outcome M.Measure.kind (memory_of catalogue.old book.old) (lent (labels_of workspace.old) reply.old) call
-        result (memory_of catalogue.new book.new) (lent (labels_of workspace.new) reply.new) }
+    ensures outcome { Outcome M.Measure.kind
+        (memory_of catalogue.old book.old) (lent (labels_of workspace.old) reply.old) call result
+        (memory_of catalogue.new book.new) (lent (labels_of workspace.new) reply.new) }
     ensures links { SameLinks catalogue.old catalogue.new }
     ensures places { SamePlaces book.old book.new }
     ensures workspace { SameWorkspace workspace.old workspace.new }
@@ -74,10 +75,13 @@ pub fn perform<M: Measure>(
     reply: &mut [u16],
     call: Call<M, M::Limit>,
 ) -> Reply<M>
-    ensures outcome { Outcome M.Measure.kind (memory_of catalogue.old book.old) (lent (labels_of workspace.old) reply.old) call
-        result (memory_of catalogue.new book.new) (lent (labels_of workspace.new) reply.new) }
-    ensures causes_in_order { InOrder (causes_of M.Measure.kind (memory_of catalogue.old book.old) (lent (labels_of workspace.old) reply.old) call) }
-    ensures no_better_route { Continues M.Measure.kind (memory_of catalogue.old book.old) call result (memory_of catalogue.new book.new) }
+    ensures outcome { Outcome M.Measure.kind
+        (memory_of catalogue.old book.old) (lent (labels_of workspace.old) reply.old) call result
+        (memory_of catalogue.new book.new) (lent (labels_of workspace.new) reply.new) }
+    ensures causes_in_order { InOrder (causes_of M.Measure.kind
+        (memory_of catalogue.old book.old) (lent (labels_of workspace.old) reply.old) call) }
+    ensures no_better_route { Continues M.Measure.kind
+        (memory_of catalogue.old book.old) call result (memory_of catalogue.new book.new) }
     ensures links { SameLinks catalogue.old catalogue.new }
     ensures places { SamePlaces book.old book.new }
     ensures workspace { SameWorkspace workspace.old workspace.new }

@@ -168,7 +168,8 @@ pub fn find_route<M: Measure, N: Links<M>>(
 ) -> Result<Option<Route<M>>, Refusal>
     ensures searched { Searched M.Measure.kind (N.Links.span network.now) (N.Links.links network.now) k ask
         (labels_of workspace.old) (labels_of workspace.new) row.old row.new result }
-    ensures causes_in_order { InOrder (route_causes M.Measure.kind (N.Links.span network.now) (length (labels_of workspace.old)) k ask (length row.old)) }
+    ensures causes_in_order { InOrder (route_causes M.Measure.kind
+        (N.Links.span network.now) (length (labels_of workspace.old)) k ask (length row.old)) }
     ensures same { SameWorkspace workspace.old workspace.new }
 {
     find_checked(network, workspace.slots, k, ask, row)
