@@ -59,7 +59,8 @@ pub data BreaksOff (feed : List ℕ) (room : Room) (m : Memory TrunkValue TrunkL
   at_unreadable : {number start : ℕ} {lines line : List ℕ} {after : Memory TrunkValue TrunkLimits} →
       ServesFirst feed room m number start lines after → Unreadable feed number start line → BreaksOff feed room m after
 
--- the lines of the feed are written behind what was written before; or it broke off, since the writer failed: nothing is known of what that holds
+-- the lines of the feed are written behind what was written before; or it broke off, since the writer failed, and nothing is known of what
+-- that holds
 abbrev pub PrintsFeed : {E : Type 0} → List ℕ → Room → Memory TrunkValue TrunkLimits → Option (List ℕ) → Option (List ℕ) → Memory TrunkValue TrunkLimits → Result (Unit {0}) E → Type 0
 PrintsFeed feed room m was is m' (Ok done) = (lines : List ℕ) × LinesOf feed room m lines m' × Appends was is lines
 PrintsFeed feed room m was is m' (Err error) = BreaksOff feed room m m'
