@@ -45,7 +45,8 @@ fn mark_text(mark: Mark) -> &'static [u8]
     }
 }
 
-// Puts the words of a refusal into a sink: its number, and what it returns.
+// Puts the words of a refusal into a sink: its number, and what it returns. That is a word of eight bytes with its space, and three numbers
+// at the most.
 fn put_refusal<S: Sink>(why: Refusal, sink: &mut S)
     ensures words { S.took sink.old (flat_map after_space (words (Reply.Refused why) [])) sink.new }
     ensures short { length (flat_map after_space (words (Reply.Refused why) [])) ≤ 71 }
@@ -64,7 +65,7 @@ fn put_refusal<S: Sink>(why: Refusal, sink: &mut S)
 }
 
 impl Reply {
-    // Puts its words into a sink, and of a route its legs too.
+    // Puts its words into a sink, and of a route its legs too. Of 2,048 bytes they leave 21, for the record's number and the newline.
     fn put<S: Sink>(self, legs: &[u16], sink: &mut S)
         ensures words { S.took sink.old (flat_map after_space (words self legs.now)) sink.new }
         ensures short { length legs.now < 256 → length (flat_map after_space (words self legs.now)) ≤ 2027 }

@@ -10,7 +10,7 @@ use Rattle.service.specs.Serving.{TrunkValue, TrunkLimits, Served}
 use Rattle.service.specs.Services.{Room, memory_in, lent_by, room_in, SameService}
 use Rattle.service.specs.declared.storage.Sizes.{Sizes}
 use Rattle.service.specs.Input.{TakesUpTo, Fills, day_room, opened_day, PrintsDay, PrintsInput}
-use Rattle.service.specs.Feeds.{line_for, ServesNext, Unreadable, ServesFirst, one_served, unreadable, PrintsFeed}
+use Rattle.service.specs.Feeds.{line_for, ServesNext, Unreadable, ServesFirst, unreadable, at_a_record, at_unreadable, PrintsFeed}
 
 -- a service is the same after two steps
 pub same_again : {s s' s'' : Service} → SameService s s' → SameService s' s'' → SameService s s''
@@ -39,13 +39,13 @@ module _ {E : Type 0} {feed : List ℕ} {room : Room} {m between : Memory TrunkV
   pub printed_last : (printed : Option (List ℕ)) (answer : Result (Unit {0}) E) → Appends was printed lines → Unreadable feed number start line → IfOk answer (λ done. Appends printed is line) →
       PrintsFeed feed room m was is between answer
   printed_last printed (Ok done) wrote last p = (lines ++ line, unreadable first last, Appends-trans was printed is lines line wrote p)
-  printed_last printed (Err error) wrote last p = (number, start, lines, first)
+  printed_last printed (Err error) wrote last p = at_unreadable first last
 
   -- the feed broke off at the line of a record that was served
   pub broke_off : {m' : Memory TrunkValue TrunkLimits} (error : E) (answer : Result (Unit {0}) E) → IsErrAnd answer (λ e. e ≡ error) → ServesNext feed room number start between line m' →
       PrintsFeed feed room m was is m' answer
   broke_off error (Ok done) fails next = absurd fails
-  broke_off error (Err other) fails next = (number + 1, _, lines ++ line, one_served first next)
+  broke_off error (Err other) fails next = at_a_record first next
 
 -- a feed whose lines are printed was read into a buffer, and served over memory just opened
 pub prints_day : {E : Type 0} (s : Sizes) (was is before after : Option (List ℕ)) (buffer : List ℕ) (n : ℕ) (room : Room) (m : Memory TrunkValue TrunkLimits) (answer : Result (Unit {0}) E) →

@@ -52,11 +52,15 @@ pub data LinesOf (feed : List ℕ) (room : Room) (m : Memory TrunkValue TrunkLim
   unreadable : {number start : ℕ} {lines line : List ℕ} {after : Memory TrunkValue TrunkLimits} →
       ServesFirst feed room m number start lines after → Unreadable feed number start line → LinesOf feed room m (lines ++ line) after
 
--- the first records of the feed were served, and no more
-abbrev pub BreaksOff : List ℕ → Room → Memory TrunkValue TrunkLimits → Memory TrunkValue TrunkLimits → Type 0
-BreaksOff feed room m m' = (number : ℕ) × (start : ℕ) × (lines : List ℕ) × ServesFirst feed room m number start lines m'
+-- The feed broke off, and this is the memory after it: at the line of a record that was served, or at that of what cannot be read.
+pub data BreaksOff (feed : List ℕ) (room : Room) (m : Memory TrunkValue TrunkLimits) : Memory TrunkValue TrunkLimits → Type 0 where
+  at_a_record : {number start : ℕ} {lines line : List ℕ} {before after : Memory TrunkValue TrunkLimits} →
+      ServesFirst feed room m number start lines before → ServesNext feed room number start before line after → BreaksOff feed room m after
+  at_unreadable : {number start : ℕ} {lines line : List ℕ} {after : Memory TrunkValue TrunkLimits} →
+      ServesFirst feed room m number start lines after → Unreadable feed number start line → BreaksOff feed room m after
 
--- the lines of the feed are written behind what was written before; or the writer failed, and nothing is known of what it holds
+-- the lines of the feed are written behind what was written before; or it broke off, since the writer failed, and nothing is known of what
+-- that holds
 abbrev pub PrintsFeed : {E : Type 0} → List ℕ → Room → Memory TrunkValue TrunkLimits → Option (List ℕ) → Option (List ℕ) → Memory TrunkValue TrunkLimits → Result (Unit {0}) E → Type 0
 PrintsFeed feed room m was is m' (Ok done) = (lines : List ℕ) × LinesOf feed room m lines m' × Appends was is lines
 PrintsFeed feed room m was is m' (Err error) = BreaksOff feed room m m'

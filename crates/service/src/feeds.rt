@@ -16,16 +16,11 @@ use std::io::Write;
 use std::iter::Zip;
 use std::ops::RangeFrom;
 
-// Room for the longest line: a route with fewer legs than 256 sites.
+// Room for the longest line, that of a route with 255 legs.
 const LINE: usize = 2048;
 
 // Writes the line of the record with this number.
-pub(crate) fn print_line<W: Write>(
-    out: &mut W,
-    number: usize,
-    reply: Printed,
-    legs: &[u16],
-) -> io::Result<()>
+fn print_line<W: Write>(out: &mut W, number: usize, reply: Printed, legs: &[u16]) -> io::Result<()>
     requires { length legs.now < 256 }
     ensures { IfOk result (λ _. Appends (W.Write.contents out.old) (W.Write.contents out.new) (line_of number reply legs.now)) }
 {
