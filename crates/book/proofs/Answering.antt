@@ -9,7 +9,7 @@ use Rattle.report.specs.declared.Refusal.{Refusal}
 use Rattle.report.specs.declared.Refusal.TheVariants.{CardEmpty}
 use Rattle.catalogue.specs.declared.routes.Ask.{Ask}
 use Rattle.catalogue.specs.declared.routes.Route.{Route}
-use Rattle.catalogue.specs.Asks.{row_of}
+use Rattle.catalogue.specs.Asks.{row_with}
 use Rattle.routing.specs.Searching.{route_causes, Answered}
 use Rattle.report.specs.declared.Mark.TheVariants.{Standing, Doubtful}
 use Rattle.report.specs.Refusals.{topmost, unless, filled_or}
@@ -17,8 +17,9 @@ use Rattle.catalogue.specs.Places.{at}
 use Rattle.labels.specs.declared.Slot.{Slot}
 use Rattle.cards.specs.declared.Card.{Card}
 use Rattle.cards.specs.Books.{Network, Book, SoundBook}
-use Rattle.cards.specs.Calls.{Emptied, differ, quote_causes, recheck_causes, Quoted, quoted, quote_full, Rechecked, rechecked, recheck_full}
-use Rattle.cards.proofs.Clearing.{cleared}
+use Rattle.labels.specs.Workspaces.{AllFree}
+use Rattle.cards.specs.Calls.{differ, quote_causes, recheck_causes, Quoted, quoted, quote_full, Rechecked, rechecked, recheck_full}
+use Rattle.report.proofs.Clearing.{cleared}
 use Rattle.book.proofs.Refusing.{first_passed, unless_tells, filled_refused, filled_passed}
 use Rattle.book.specs.Answers.{RowAnswer, CardAnswer}
 
@@ -32,14 +33,14 @@ paste_back rows row start width fits is =
     ∙ take-append-drop start rows
 
 -- legs that have a row of the width have room in it
-row_room : (legs row : List ℕ) (width : ℕ) → row ≡ row_of legs width → length row ≡ width → length legs ≤ width
+row_room : (legs row : List ℕ) (width : ℕ) → row ≡ row_with legs width → length row ≡ width → length legs ≤ width
 row_room legs row width is long = let h = simp (length-append, length-replicate) at (ap length is) in omega arith
 
 module _ {V L : Type 0} (K : Kind V L) (n : Network V) (k : ℕ) (ask : Ask L) (rows row row' rows' : List ℕ) (start width : ℕ) where
   pub row_answered : start + width ≤ length rows → row ≡ take width (drop start rows) → length row ≡ width → length row' ≡ width → rows' ≡ paste rows start row' width →
       (r : Result (Option (Route V)) Refusal) → Answered K n.links k ask row row' r → RowAnswer K n k ask rows start width r rows'
   row_answered fits is long long' put (Ok answer) (legs, found, left) =
-      let own : row' ≡ row_of legs width = left ∙ ap (row_of legs) long in
+      let own : row' ≡ row_with legs width = left ∙ ap (row_with legs) long in
       (legs, found, row_room legs row' width own long', put ∙ ap (λ xs. paste rows start xs width) own)
   row_answered fits is long long' put (Err why) (site, full, crowded, left) =
       (site, full, crowded, put ∙ ap (λ xs. paste rows start xs width) left ∙ paste_back rows row start width fits is)
@@ -50,12 +51,12 @@ moved P {r} {r'} {b} {b'} {labels} er eb h = subst (λ x. P x b' labels) (sym er
 
 module _ {V L : Type 0} {K : Kind V L} {n : Network V} {b : Book V L} {labels : List (Slot V)} {card : ℕ} where
   pub quoted_so : {ask : Ask L} {k : ℕ} (r : Result (Option (Route V)) Refusal) {b' : Book V L} {labels' : List (Slot V)} → topmost (quote_causes K n b (length labels) card ask k) ≡ None →
-      Emptied K labels' → CardAnswer K n k ask Standing b card r b' → Quoted K n b labels card ask k r b' labels'
+      AllFree K labels' → CardAnswer K n k ask Standing b card r b' → Quoted K n b labels card ask k r b' labels'
   quoted_so {ask} {k} (Ok answer) {labels' = labels'} free empty (legs, found, is) = moved (Quoted K n b labels card ask k) refl is (quoted answer legs labels' free found empty)
   quoted_so {ask} {k} (Err why) {labels' = labels'} free empty (site, full, crowded, is) = moved (Quoted K n b labels card ask k) (ap Err full) is (quote_full site labels' free crowded empty)
 
   pub rechecked_so : {k : ℕ} (it : Card V L) (r : Result (Option (Route V)) Refusal) {b' : Book V L} {labels' : List (Slot V)} → topmost (recheck_causes n b (length labels) card k) ≡ None →
-      at b.cards card ≡ Some it → it.mark ≡ Doubtful → Emptied K labels' → CardAnswer K n k it.ask Standing b card r b' → Rechecked K n b labels card k r b' labels'
+      at b.cards card ≡ Some it → it.mark ≡ Doubtful → AllFree K labels' → CardAnswer K n k it.ask Standing b card r b' → Rechecked K n b labels card k r b' labels'
   rechecked_so {k} it (Ok answer) {labels' = labels'} free here doubtful empty (legs, found, is) = moved (Rechecked K n b labels card k) refl is (rechecked it answer legs labels' free here doubtful found empty)
   rechecked_so {k} it (Err why) {labels' = labels'} free here doubtful empty (site, full, crowded, is) = moved (Rechecked K n b labels card k) (ap Err full) is (recheck_full it site labels' free here doubtful crowded empty)
 

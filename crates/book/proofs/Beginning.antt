@@ -1,23 +1,16 @@
 -- Opening a quote book begins a run.
-use Rattle.std.proofs.Common.{◌≡◌, ℕ, ◌*◌, not, ◌||◌, eqb, ltb, List, [], ◌∷◌, length, replicate, None, Ok, Option, sym, ap, ◌∙◌, subst}
+use Rattle.std.proofs.Common.{◌≡◌, ℕ, List, [], length, replicate, None, Ok, Option, sym, ap, ◌∙◌, subst}
 use lib.ListN.{length-replicate}
-use Rattle.std.proofs.lemmas.Bool.{cond-true, not-false, or_parts}
 use Rattle.measure.specs.Kind.{Kind}
-use Rattle.report.specs.declared.Refusal.TheVariants.{QuoteBookSize}
-use Rattle.report.specs.Refusals.{topmost}
 use Rattle.cards.specs.declared.Card.{Card}
 use Rattle.cards.specs.Books.{Book, book_size_answer, opened_network, opened_book}
 use Rattle.cards.specs.Runs.{memory, Happened, opened}
-use Rattle.cards.proofs.Clearing.{cleared}
 use Rattle.book.specs.Sizes.{row_width}
 use Rattle.book.specs.Stores.{Begins}
-use Rattle.book.proofs.Refusing.{unless_tells}
 
 -- rows of a size that opening does not refuse have one number for each site
 opened_width : (sites cards rows : ℕ) → book_size_answer sites cards rows ≡ Ok tt → row_width sites cards rows ≡ sites
-opened_width sites cards rows e =
-    let causes = (ltb cards 1 || ltb 256 cards || not (eqb rows (cards * sites)), QuoteBookSize) ∷ [] in
-    cond-true (eqb rows (cards * sites)) sites 0 (not-false _ (or_parts (ltb cards 1 || ltb 256 cards) _ (cleared causes (unless_tells (topmost causes) (Ok tt) (sym e))).0).1)
+opened_width sites cards rows e = rw (e, row_width)
 
 pub begins : {V L : Type 0} (K : Kind V L) (sites n : ℕ) (cards : List (Option (Card V L))) (rows : List ℕ) → cards ≡ replicate n None →
     Begins K sites n (length rows) (record { width = row_width sites (length cards) (length rows); cards = cards; rows = rows })

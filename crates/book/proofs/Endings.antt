@@ -1,5 +1,5 @@
 -- How a quote, a discard and a reading end, put together from what their parts say.
-use Rattle.std.proofs.Common.{◌≡◌, ℕ, ◌+◌, ◌*◌, Bool, true, false, ltb, List, [], ◌∷◌, length, drop, set, is_ok, Some, None, Ok, Err, Option, Result, refl, sym, ap, ◌∙◌, subst, length-take}
+use Rattle.std.proofs.Common.{◌≡◌, ℕ, ◌+◌, ◌≤◌, true, false, ltb, List, [], ◌∷◌, length, drop, set, is_ok, Some, None, Ok, Err, Option, Result, refl, sym, ap, ◌∙◌, subst, arith, length-take}
 use lib.Seq.{paste}
 use Rattle.std.specs.Option.{option_map}
 use Rattle.std.proofs.lemmas.Option.{some_pair_parts}
@@ -15,8 +15,9 @@ use Rattle.catalogue.specs.declared.routes.Ask.{Ask}
 use Rattle.catalogue.specs.declared.routes.Route.{Route}
 use Rattle.labels.specs.declared.Slot.{Slot}
 use Rattle.cards.specs.declared.Card.{Card}
-use Rattle.cards.specs.Books.{Network, Book, with_card, leg_count, legs_at}
-use Rattle.cards.specs.Calls.{Emptied, differ, quote_causes, Quoted, quote_refused, recheck_causes, Rechecked, recheck_refused, still_standing, discard_causes, Discarded, discard_refused, discarded, legs_of, Shown, read_refused, shown}
+use Rattle.cards.specs.Books.{Network, Book, with_card, leg_count, legs_at, SoundBook}
+use Rattle.labels.specs.Workspaces.{AllFree}
+use Rattle.cards.specs.Calls.{differ, quote_causes, Quoted, quote_refused, recheck_causes, Rechecked, recheck_refused, still_standing, discard_causes, Discarded, discard_refused, discarded, legs_of, Shown, read_refused, shown}
 use Rattle.book.specs.Answers.{CardAnswer, Refiled}
 use Rattle.book.proofs.Answering.{quoted_so, rechecked_so, recheck_why, rechecks}
 use Rattle.book.proofs.Refusing.{first_refused, first_passed, unless_tells, filled_refused, filled_passed, card_some, topmost_first, topmost_then}
@@ -45,7 +46,7 @@ module _ {V L : Type 0} {K : Kind V L} {n : Network V} {b : Book V L} {labels : 
       quote_refused why (first_passed (differ n b) cs e ∙ unless_tells (topmost cs) (Err why) h)
 
   pub quote_done : {r : Result (Option (Route V)) Refusal} {b' : Book V L} {labels' : List (Slot V)} → Ok tt ≡ sites_answer n b →
-      Ok tt ≡ quote_answer K n b (length labels) card ask k → Emptied K labels' → CardAnswer K n k ask Standing b card r b' →
+      Ok tt ≡ quote_answer K n b (length labels) card ask k → AllFree K labels' → CardAnswer K n k ask Standing b card r b' →
       Quoted K n b labels card ask k r b' labels'
   quote_done {r} e h empty answer =
       let cs = drop 1 (quote_causes K n b (length labels) card ask k) in
@@ -73,7 +74,7 @@ module _ {V L : Type 0} {K : Kind V L} {n : Network V} {b : Book V L} {labels : 
 
   pub recheck_done : {ask : Ask L} {r : Result (Option (Route V)) Refusal} {b' : Book V L} {labels' : List (Slot V)} → Ok tt ≡ sites_answer n b →
       is_ok (recheck_answer n b (length labels) card k) ≡ true → option_map {U = Mark × Ask L} (λ (c : Card V L). (c.mark, c.ask)) (at b.cards card) ≡ Some (Doubtful, ask) →
-      Emptied K labels' → CardAnswer K n k ask Standing b card r b' → Rechecked K n b labels card k r b' labels'
+      AllFree K labels' → CardAnswer K n k ask Standing b card r b' → Rechecked K n b labels card k r b' labels'
   recheck_done {ask} {r} {b'} {labels'} e ok held empty found = go (recheck_answer n b (length labels) card k) refl ok
     where
       go : (c : Result (Card V L) Refusal) → c ≡ recheck_answer n b (length labels) card k → is_ok c ≡ true → Rechecked K n b labels card k r b' labels'
@@ -133,6 +134,14 @@ module _ {V L : Type 0} {b : Book V L} {card start : ℕ} {reply : List ℕ} whe
           subst (λ m. Shown b card start reply (Ok (m, it.answer)) (paste reply start (legs_at b card it.answer) (length (legs_at b card it.answer)))) marks at_it in
           subst (Shown b card start reply (Ok (mark, answer))) (sym left)
           (subst (λ a. Shown b card start reply (Ok (mark, a)) (paste reply start (legs_at b card a) (length (legs_at b card a)))) answers at_mark)
+
+-- the legs of a filled card have room in its row
+pub legs_fit : {V L : Type 0} (K : Kind V L) {w : ℕ} {cards : List (Option (Card V L))} {rows : List ℕ} (card : ℕ) (it : Card V L) → SoundBook K w cards rows →
+    Ok it ≡ card_answer (record { width = w; cards = cards; rows = rows }) card → leg_count it.answer ≤ w
+legs_fit {V} {L} K {w} {cards} {rows} card it sound e =
+    let b : Book V L = record { width = w; cards = cards; rows = rows } in
+    let fit = sound.each card it (filled_passed (topmost (discard_causes b card)) CardEmpty (at cards card) it e).1 in
+    omega (arith, fit.short)
 
 -- how a quote ends, a discard, and a reading
 pub ruleset quotes = (quote_sites, quote_checks, quote_done)

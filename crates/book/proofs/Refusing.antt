@@ -9,7 +9,7 @@ use Rattle.catalogue.specs.Calls.{replace_causes, remove_causes}
 use Rattle.catalogue.specs.Places.{at}
 use Rattle.cards.specs.Books.{Book}
 use Rattle.cards.specs.Calls.{discard_causes}
-use Rattle.cards.proofs.Clearing.{cleared}
+use Rattle.report.proofs.Clearing.{cleared}
 
 -- the refusal that an answer tells of, or that it tells of none
 abbrev pub Tells : {A : Type 0} → Result A Refusal → Option Refusal → Type 0

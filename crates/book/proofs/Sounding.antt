@@ -13,7 +13,7 @@ use Rattle.catalogue.specs.Routes.{Found}
 use Rattle.cards.specs.declared.Card.{Card}
 use Rattle.cards.specs.declared.MarkEvent.{MarkEvent}
 use Rattle.cards.specs.Books.{Network, leg_count, SoundCard, SoundBook}
-use Rattle.cards.proofs.Clearing.{some_same, none_some}
+use Rattle.report.proofs.Clearing.{some_same, none_some}
 use Rattle.doubt.specs.News.{after}
 
 none_at : {A : Type 0} (n c : ℕ) → at {A = A} (replicate n None) c ≡ None

@@ -8,10 +8,10 @@ use Rattle.report.specs.declared.Refusal.TheVariants.{LabelsFull}
 use Rattle.catalogue.specs.declared.Link.{Link}
 use Rattle.catalogue.specs.declared.routes.Ask.{Ask}
 use Rattle.catalogue.specs.declared.routes.Route.{Route}
-use Rattle.catalogue.specs.Asks.{row_of}
+use Rattle.catalogue.specs.Asks.{row_with}
 use Rattle.catalogue.specs.Routes.{Found, Overfull}
 use Rattle.cards.specs.declared.Card.{Card}
-use Rattle.cards.specs.Books.{Network, Book, with_cards, with_card}
+use Rattle.cards.specs.Books.{Network, Book, card_of, with_cards, with_card}
 use Rattle.cards.specs.Doubts.{Doubted}
 use Rattle.doubt.specs.declared.News.{News}
 use Rattle.doubt.specs.News.{rule_of}
@@ -20,14 +20,10 @@ use Rattle.doubt.specs.News.{rule_of}
 abbrev pub network_with : {V : Type 0} → ℕ → List (Option (Link V)) → Network V
 network_with sites links = record { sites = sites; links = links }
 
--- a card that was asked this, with this answer and mark
-abbrev pub card_of : {V L : Type 0} → Ask L → Option (Route V) → Mark → Card V L
-card_of ask answer mark = record { ask = ask; answer = answer; mark = mark }
-
 -- the rows after routing, with the legs in the row that begins at the start place; a site that is full leaves them as they were
 abbrev pub RowAnswer : {V L : Type 0} → Kind V L → Network V → ℕ → Ask L → List ℕ → ℕ → ℕ → Result (Option (Route V)) Refusal → List ℕ → Type 0
 RowAnswer K n k ask rows start width (Ok answer) rows' =
-    (legs : List ℕ) × Found K n.links ask answer legs × (length legs ≤ width) × (rows' ≡ paste rows start (row_of legs width) width)
+    (legs : List ℕ) × Found K n.links ask answer legs × (length legs ≤ width) × (rows' ≡ paste rows start (row_with legs width) width)
 RowAnswer K n k ask rows start width (Err why) rows' = (site : ℕ) × (why ≡ LabelsFull site) × Overfull K n.links ask k site × (rows' ≡ rows)
 
 -- the quote book after routing for a card
@@ -44,4 +40,4 @@ pub record Spread {V L : Type 0} (K : Kind V L) (news : News V) (b : Book V L) (
 pub record Refiled {V L : Type 0} (b : Book V L) (card : ℕ) (what : Option (Card V L)) (legs : List ℕ) (b' : Book V L) : Type 0 where
   pub width : b'.width ≡ b.width
   pub cards : b'.cards ≡ slice_set b.cards card what
-  pub rows : b'.rows ≡ paste b.rows (card * b.width) (row_of legs b.width) b.width
+  pub rows : b'.rows ≡ paste b.rows (card * b.width) (row_with legs b.width) b.width

@@ -5,7 +5,8 @@ ghost use Rattle.report.specs.Refusals.{topmost, unless, filled_or};
 ghost use Rattle.catalogue.specs.Places.{at};
 ghost use Rattle.routing.specs.Lent.{labels_of, SameWorkspace};
 ghost use Rattle.routing.specs.Searching.{route_causes};
-ghost use Rattle.cards.specs.Calls.{Emptied, differ, quote_causes, recheck_causes, Quoted, Rechecked};
+ghost use Rattle.labels.specs.Workspaces.{AllFree};
+ghost use Rattle.cards.specs.Calls.{differ, quote_causes, recheck_causes, Quoted, Rechecked};
 ghost use Rattle.book.specs.Stores.{network_of, book_of, SamePlaces};
 ghost use Rattle.catalogue.specs.Keeping.{sites_of};
 ghost use Rattle.book.specs.Answers.{network_with, RowAnswer, CardAnswer};
@@ -83,9 +84,9 @@ fn find_in_row<M: Measure, N: Links<M>>(
     width: usize,
 ) -> Result<Option<Route<M>>, Refusal>
     requires inside { start + width ≤ length rows.old }
-    requires free { topmost (route_causes M.Measure.kind (N.Links.span network.now) (length (labels_of workspace.old)) k ask width) ≡ None }
+    requires unrefused { topmost (route_causes M.Measure.kind (N.Links.span network.now) (length (labels_of workspace.old)) k ask width) ≡ None }
     ensures same { SameWorkspace workspace.old workspace.new }
-    ensures labels { Emptied M.Measure.kind (labels_of workspace.new) }
+    ensures labels { AllFree M.Measure.kind (labels_of workspace.new) }
     ensures answer { RowAnswer M.Measure.kind (network_with (N.Links.span network.now) (N.Links.links network.now)) k ask rows.old start width result rows.new }
 {
     let row = &mut rows[start..start + width];
@@ -103,9 +104,9 @@ fn answer_card<M: Measure>(
     mark: Mark,
 ) -> Result<Option<Route<M>>, Refusal>
     requires inside { card < length book.old.cards.now }
-    requires free { topmost (route_causes M.Measure.kind (sites_of catalogue.now) (length (labels_of workspace.old)) k ask (book_of book.old).width) ≡ None }
+    requires unrefused { topmost (route_causes M.Measure.kind (sites_of catalogue.now) (length (labels_of workspace.old)) k ask (book_of book.old).width) ≡ None }
     ensures same { SameWorkspace workspace.old workspace.new }
-    ensures labels { Emptied M.Measure.kind (labels_of workspace.new) }
+    ensures labels { AllFree M.Measure.kind (labels_of workspace.new) }
     ensures answer { CardAnswer M.Measure.kind (network_of catalogue.now) k ask mark (book_of book.old) card result (book_of book.new) }
     ensures places { SamePlaces book.old book.new }
 {

@@ -7,7 +7,7 @@ ghost use Rattle.catalogue.specs.Places.{at};
 ghost use Rattle.cards.specs.Calls.{discard_causes, Discarded, Shown};
 ghost use Rattle.book.specs.Stores.{book_of, SamePlaces};
 
-use crate::{QuoteBook, front, row_of};
+use crate::QuoteBook;
 use cards::Card;
 use catalogue::Route;
 use doubt::leg_count;
@@ -68,7 +68,6 @@ pub fn read<M: Measure>(
     if is_short(reply.len(), start, legs) {
         return Err(Refusal::ReplyTooShort);
     }
-    let row = row_of(book.rows, book.width(), card);
-    copy_into(front(row, legs), reply, start);
+    copy_into(book.legs(card, legs), reply, start);
     Ok((it.mark, it.answer))
 }

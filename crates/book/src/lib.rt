@@ -6,7 +6,7 @@ ghost use Rattle.std.proofs.Math.Seq.{paste};
 ghost use Rattle.catalogue.specs.Places.{at};
 ghost use Rattle.cards.specs.Books.{book_size_answer, opened_book, row_at};
 ghost use Rattle.cards.specs.Doubts.{uses};
-ghost use Rattle.catalogue.specs.Asks.{row_of as row_with};
+ghost use Rattle.catalogue.specs.Asks.{row_with};
 ghost use Rattle.std.proofs.Props.{props};
 ghost use Rattle.cards.specs.Books.{SoundBook};
 ghost use Rattle.book.specs.Sizes.{row_width};
@@ -22,7 +22,7 @@ mod answers;
 mod entries;
 mod marking;
 
-// The calls are functions, and not methods, by a rule of the project: most are of a catalogue and a quote book together.
+// The calls are functions, and not methods, since most are of a catalogue and a quote book together.
 pub use answers::{check_sites, quote, recheck};
 pub use entries::{discard, read};
 pub use marking::spread;
@@ -47,14 +47,13 @@ pub fn check_book_size(sites: usize, cards: usize, rows: usize) -> Result<(), Re
     }
 }
 
-// How many numbers a card's row has: one for each site, and none where the rows are of another size. It is worked out where it is asked,
-// and no field, since a quote book of any size can be made.
+// How many numbers a card's row has: one for each site, and none in a quote book of a size that is refused.
 fn row_width(sites: usize, cards: usize, rows: usize) -> usize
     ensures value { result ≡ row_width sites cards rows }
     ensures fits { cards * result ≤ rows }
     ensures whole { 0 < result → rows ≡ cards * result }
 {
-    if cards.checked_mul(sites) == Some(rows) {
+    if check_book_size(sites, cards, rows).is_ok() {
         sites
     } else {
         0
@@ -102,7 +101,8 @@ fn clear_row(rows: &mut [u16], start: usize, width: usize)
 impl<'a, M: Measure> QuoteBook<'a, M> {
     ghost use Rattle.book.specs.Stores.{book_of, cards_lent, rows_lent, Begins};
 
-    // Empties every card place and leaves the rows. The size is for `check_book_size` to refuse beforehand; this cannot refuse.
+    // Empties every card place and leaves the rows. The size is for `check_book_size` to refuse beforehand; this cannot refuse, and of a size
+    // that is refused there are no sites.
     #[tactic(auto, using(crate::proofs::Beginning::begins))]
     pub fn open(
         cards: &'a mut [Option<Card<M, M::Limit>>],
@@ -139,6 +139,16 @@ impl<M: Measure> QuoteBook<'_, M> {
         ensures fits { result + (book_of self.now).width ≤ length self.now.rows.now }
     {
         card * self.width()
+    }
+
+    // The first numbers of the card's row, no more of them than it has.
+    fn legs(&self, card: usize, count: usize) -> &[u16]
+        requires inside { card < length self.now.cards.now }
+        requires few { count ≤ (book_of self.now).width }
+        ensures { result.now ≡ take count (row_at (book_of self.now).width self.now.rows.now card) }
+    {
+        let start = self.row_start(card);
+        &self.rows[start..start + count]
     }
 
     // Empties the card's place, and zeros its row.

@@ -13,7 +13,7 @@ use Rattle.catalogue.specs.Calls.{revalued}
 use Rattle.catalogue.specs.Routes.{Sound, SoundLink}
 use Rattle.catalogue.specs.declared.routes.Ask.{Ask}
 use Rattle.catalogue.specs.declared.routes.Route.{Route}
-use Rattle.catalogue.specs.Asks.{row_of}
+use Rattle.catalogue.specs.Asks.{row_with}
 use Rattle.labels.specs.declared.Slot.{Slot}
 use Rattle.cards.specs.declared.Card.{Card}
 use Rattle.cards.specs.declared.Call.{Call}
@@ -24,9 +24,9 @@ use Rattle.cards.specs.Calls.{offer_causes, change_causes, withdraw_causes, quot
 use Rattle.cards.specs.Calls.{Offered, offer_refused, offered, Changed, change_refused, changed, Withdrawn, withdraw_refused, withdrawn}
 use Rattle.cards.specs.Calls.{Quoted, quote_refused, quote_full, quoted, Rechecked, recheck_refused, still_standing, recheck_full, rechecked, Discarded, discard_refused, discarded, Shown, read_refused, shown}
 use Rattle.cards.specs.Runs.{Reply, counted, answered, emptied, showing, unless_refused, revalue, relinked, reasked}
-use Rattle.cards.proofs.Clearing.{some_same, none_some, none_of, cleared}
+use Rattle.report.proofs.Clearing.{some_same, none_some, none_of, cleared}
 use Rattle.cards.proofs.Rows.{row_length, row_within, other_rows, own_row}
-use Rattle.cards.proofs.Walking.{sound_set}
+use Rattle.catalogue.proofs.Keeping.{sound_set}
 use Rattle.cards.proofs.Standing.{Stands, found_stands, found_short, offer_stands, withdraw_stands, change_stands}
 
 -- a card that was asked this, with its row: where it stands, it says what is so
@@ -93,15 +93,15 @@ module _ {V L : Type 0} {K : Kind V L} {catalogue : List (Option (Link V))} {ask
 
   -- a card is filed, or discarded
   refiled : (ask' : ℕ → Option (Ask L)) (c : ℕ) (o : Option (Card V L)) (legs : List ℕ) → c < length b.cards → length legs ≤ b.width →
-      ((d : ℕ) → (d ≡ c → ⊥) → ask' d ≡ ask d) → Filed K n (ask' c) o (row_of legs b.width) → Kept K catalogue ask' n (with_card b c o legs)
+      ((d : ℕ) → (d ≡ c → ⊥) → ask' d ≡ ask d) → Filed K n (ask' c) o (row_with legs b.width) → Kept K catalogue ask' n (with_card b c o legs)
   refiled ask' c o legs lt fits others own = record {
     links = kept.links;
     sound = kept.sound;
-    rows = length-paste b.rows (c * b.width) (row_of legs b.width) b.width inside (omega (arith, whole)) ∙ kept.rows ∙ ap (λ m. m * b.width) (sym (length-set b.cards c o));
+    rows = length-paste b.rows (c * b.width) (row_with legs b.width) b.width inside (omega (arith, whole)) ∙ kept.rows ∙ ap (λ m. m * b.width) (sym (length-set b.cards c o));
     cards = λ d. ⊎_elim (λ same. subst (Place K ask' n (with_card b c o legs)) (sym same) here) (λ ne. there d ne) (cases_eq d c);
   }
     where
-      whole : length (row_of legs b.width) ≡ b.width
+      whole : length (row_with legs b.width) ≡ b.width
       whole = row_length legs b.width fits
 
       inside : c * b.width + b.width ≤ length b.rows
@@ -110,12 +110,12 @@ module _ {V L : Type 0} {K : Kind V L} {catalogue : List (Option (Link V))} {ask
       here : Place K ask' n (with_card b c o legs) c
       here =
           subst (λ x. Filed K n (ask' c) x (row_at b.width (with_card b c o legs).rows c)) (sym (get_or-set_same b.cards c o None lt))
-          (subst (Filed K n (ask' c) o) (sym (own_row b.width c b.rows (row_of legs b.width) inside whole)) own)
+          (subst (Filed K n (ask' c) o) (sym (own_row b.width c b.rows (row_with legs b.width) inside whole)) own)
 
       there : (d : ℕ) → (d ≡ c → ⊥) → Place K ask' n (with_card b c o legs) d
       there d ne =
           subst (λ x. Filed K n (ask' d) x (row_at b.width (with_card b c o legs).rows d)) (sym (get_or-set_other b.cards c d o None ne))
-          (subst (Filed K n (ask' d) (at b.cards d)) (sym (other_rows b.width c d b.rows (row_of legs b.width) inside whole ne))
+          (subst (Filed K n (ask' d) (at b.cards d)) (sym (other_rows b.width c d b.rows (row_with legs b.width) inside whole ne))
           (subst (λ a. Filed K n a (at b.cards d) (row_at b.width b.rows d)) (sym (others d ne)) (kept.cards d)))
 
 -- what each call leaves is right

@@ -1,4 +1,3 @@
-pub mod Clearing
 pub mod Rows
 pub mod Walking
 pub mod Standing

@@ -24,7 +24,7 @@ use Rattle.cards.specs.Calls.{offer_causes, change_causes, withdraw_causes, quot
 use Rattle.cards.specs.Calls.{offer_refused, offered, Changed, change_refused, changed, withdraw_refused, withdrawn}
 use Rattle.cards.specs.Calls.{quote_refused, quote_full, quoted, recheck_refused, still_standing, recheck_full, rechecked, discard_refused, discarded, Shown, read_refused, shown}
 use Rattle.cards.specs.Runs.{Memory, Lent, Outcome, by_offer, by_change, by_withdrawal, by_quote, by_recheck, by_discard, by_reading, Reply, counted, showing, Event, event, present, asked, Sought, sought_by, sought, Happened, opened, and_then, Reads, Promised, Continues}
-use Rattle.cards.proofs.Clearing.{none_some, Each, cleared, reported}
+use Rattle.report.proofs.Clearing.{none_some, Each, cleared, reported}
 use Rattle.cards.proofs.Rows.{pasted}
 use Rattle.cards.proofs.Standing.{Stands, best_of}
 use Rattle.cards.proofs.Keeping.{Filed, Kept, After, right, offer_keeps, change_keeps, withdraw_keeps, quote_keeps, recheck_keeps, discard_keeps, read_keeps}
@@ -60,6 +60,7 @@ module _ {V L : Type 0} {K : Kind V L} (laws : Laws K) where
         links = refl;
         sound = record {
           sites_few = ltb-false _ _ few.1;
+          places_some = λ some. rw length-replicate (ltb-false _ _ (or_parts _ _ size.0).1);
           places_few = λ some. rw length-replicate (ltb-false _ _ size.1);
           each = λ p s t c has. absurd (none_some (sym (none_at _ p) ∙ has));
         };

@@ -4,11 +4,11 @@ use lib.ListN.{length-replicate}
 use lib.Seq.{paste}
 use Rattle.std.proofs.lemmas.Slice.{put_mid-paste, take-put_mid_below, drop-put_mid, between-put_mid, between_is}
 use Rattle.std.proofs.lemmas.Bool.{cases_lt}
-use Rattle.catalogue.specs.Asks.{row_of}
+use Rattle.catalogue.specs.Asks.{row_with}
 use Rattle.cards.specs.Books.{row_at}
 
 -- a row has its length where the legs have room in it
-pub row_length : (legs : List ℕ) (n : ℕ) → length legs ≤ n → length (row_of legs n) ≡ n
+pub row_length : (legs : List ℕ) (n : ℕ) → length legs ≤ n → length (row_with legs n) ≡ n
 row_length legs n h = simp (length-append, length-replicate) (omega arith)
 
 -- the row of a card ends within the rows

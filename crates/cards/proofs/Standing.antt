@@ -15,15 +15,16 @@ use Rattle.catalogue.specs.Routes.{Sound}
 use Rattle.catalogue.proofs.Short.{short}
 use Rattle.catalogue.specs.declared.routes.Ask.{Ask}
 use Rattle.catalogue.specs.declared.routes.Route.{Route}
-use Rattle.catalogue.specs.Asks.{row_of}
+use Rattle.catalogue.specs.Asks.{row_with}
 use Rattle.catalogue.specs.Routes.{Found}
 use Rattle.labels.proofs.Cover.{goes_made}
 use Rattle.labels.proofs.Finding.{links_made}
 use Rattle.cards.specs.Books.{Network, legs_in}
 use Rattle.cards.specs.Doubts.{uses, same, threatens}
 use Rattle.cards.specs.Runs.{NoBetter}
-use Rattle.cards.proofs.Clearing.{some_same, none_some}
-use Rattle.cards.proofs.Walking.{goes_on, goes_back, unused, other_holds, holds_set}
+use Rattle.report.proofs.Clearing.{some_same, none_some}
+use Rattle.catalogue.proofs.Keeping.{holds_set}
+use Rattle.cards.proofs.Walking.{goes_on, goes_back, unused, other_holds}
 
 -- a walk of this value is no better than the answer: it does not rank before the route; where there is none, there is no such walk
 abbrev pub Beaten : {V L : Type 0} → Kind V L → L → Option (Route V) → V → Type 0
@@ -47,7 +48,7 @@ pub record Stands {V L : Type 0} (K : Kind V L) (links : List (Option (Link V)))
 
 -- what was found stands, read back from its row, and has room in it
 module _ {V L : Type 0} (K : Kind V L) (n : Network V) (ask : Ask L) (width : ℕ) (sound : Sound K n.sites n.links) where
-  pub found_stands : (answer : Option (Route V)) (legs : List ℕ) → Found K n.links ask answer legs → Stands K n.links ask answer (legs_in (row_of legs width) answer)
+  pub found_stands : (answer : Option (Route V)) (legs : List ℕ) → Found K n.links ask answer legs → Stands K n.links ask answer (legs_in (row_with legs width) answer)
   found_stands None legs f = record { own = tt; beaten = f.1 }
   found_stands (Some route) legs f =
       let best = f.2 in

@@ -9,7 +9,7 @@ use Rattle.catalogue.specs.Walks.{Holds, extend, Goes}
 use Rattle.catalogue.specs.Routes.{Sound, SoundLink}
 use Rattle.labels.proofs.Cover.{goes_made, goes_dom}
 use Rattle.cards.specs.Doubts.{uses}
-use Rattle.cards.proofs.Clearing.{none_some}
+use Rattle.report.proofs.Clearing.{none_some}
 
 -- a walk that does not use a place is still one, where every other link is still there
 pub goes_on : {V L : Type 0} (K : Kind V L) (Has After : ℕ → ℕ → ℕ → V → Type 0) (place : ℕ) →
@@ -49,21 +49,3 @@ module _ {V : Type 0} (links : List (Option (Link V))) (place : ℕ) where
   module _ (y : Option (Link V)) where
     pub other_holds : (p s t : ℕ) (c : V) → (p ≡ place → ⊥) → Holds links p s t c → Holds (set links place y) p s t c
     other_holds p s t c ne has = get_or-set_other links place p y None ne ∙ has
-
-    -- a link that stands somewhere after a write stood there before, or is what was written
-    pub holds_set : place < length links → (p s t : ℕ) (c : V) → Holds (set links place y) p s t c →
-        Holds links p s t c ⊎ ((p ≡ place) × (y ≡ Some (record { start = s; end = t; value = c })))
-    holds_set lt p s t c has =
-        ⊎_elim
-        (λ e. inr (e, sym (get_or-set_same links place y None lt) ∙ subst (λ x. Holds (set links place y) x s t c) e has))
-        (λ ne. inl (sym (get_or-set_other links place p y None ne) ∙ has))
-        (cases_eq p place)
-
-    -- a sound catalogue is so after a link that may stand in it is written
-    pub sound_set : {L : Type 0} {K : Kind V L} (sites : ℕ) → place < length links → Sound K sites links →
-        ((s t : ℕ) (c : V) → y ≡ Some (record { start = s; end = t; value = c }) → SoundLink K sites s t c) → Sound K sites (set links place y)
-    sound_set sites lt sound new = record {
-      sites_few = sound.sites_few;
-      places_few = λ some. rw length-set (sound.places_few some);
-      each = λ p s t c has. ⊎_elim (sound.each p s t c) (λ h. new s t c h.1) (holds_set lt p s t c has);
-    }

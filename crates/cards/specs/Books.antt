@@ -2,13 +2,15 @@
 use Rattle.std.specs.Prelude.{◌≡◌, ℕ, ◌*◌, ◌<◌, true, not, ◌||◌, List, [], ◌∷◌, length, take, drop, replicate, Some, None, Ok, Option, Result, ◌==◌, nat_lt, slice_set}
 use Rattle.std.proofs.Math.Seq.{paste}
 use Rattle.measure.specs.Kind.{Kind}
+use Rattle.report.specs.declared.Mark.{Mark}
 use Rattle.report.specs.declared.Refusal.{Refusal}
 use Rattle.report.specs.declared.Refusal.TheVariants.{QuoteBookSize}
 use Rattle.report.specs.Refusals.{topmost, unless}
 use Rattle.catalogue.specs.declared.Link.{Link}
 use Rattle.catalogue.specs.Places.{at}
+use Rattle.catalogue.specs.declared.routes.Ask.{Ask}
 use Rattle.catalogue.specs.declared.routes.Route.{Route}
-use Rattle.catalogue.specs.Asks.{row_of}
+use Rattle.catalogue.specs.Asks.{row_with}
 use Rattle.cards.specs.declared.Card.{Card}
 
 -- a catalogue: how many sites there are, and the links by place
@@ -43,10 +45,14 @@ with_links n links = record { sites = n.sites; links = links }
 abbrev pub with_cards : {V L : Type 0} → Book V L → List (Option (Card V L)) → Book V L
 with_cards b cards = record { width = b.width; cards = cards; rows = b.rows }
 
+-- a card that was asked this, with this answer and mark
+abbrev pub card_of : {V L : Type 0} → Ask L → Option (Route V) → Mark → Card V L
+card_of ask answer mark = record { ask = ask; answer = answer; mark = mark }
+
 -- the same quote book with another card at the place c, and in its row these legs, then zeros
 abbrev pub with_card : {V L : Type 0} → Book V L → ℕ → Option (Card V L) → List ℕ → Book V L
 with_card b c card legs =
-    record { width = b.width; cards = slice_set b.cards c card; rows = paste b.rows (c * b.width) (row_of legs b.width) b.width }
+    record { width = b.width; cards = slice_set b.cards c card; rows = paste b.rows (c * b.width) (row_with legs b.width) b.width }
 
 -- the row of the card at the place c
 abbrev pub row_at : ℕ → List ℕ → ℕ → List ℕ
@@ -74,7 +80,7 @@ pub record SoundCard {V L : Type 0} (K : Kind V L) (sites : ℕ) (card : Card V 
   pub short : leg_count card.answer < sites
   pub few : leg_count card.answer < 256
 
--- a quote book as its calls make it: every card is such, and there is a row number for each card place and site
+-- a quote book as its calls make it: every card is such, and where it is for any sites, there is a row number for each card place and site
 pub record SoundBook {V L : Type 0} (K : Kind V L) (sites : ℕ) (cards : List (Option (Card V L))) (rows : List ℕ) : Type 0 where
   pub whole : 0 < sites → length rows ≡ length cards * sites
   pub each : (c : ℕ) (card : Card V L) → at cards c ≡ Some card → SoundCard K sites card

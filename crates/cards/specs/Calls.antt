@@ -15,10 +15,9 @@ use Rattle.catalogue.specs.Routes.{Found, Overfull}
 use Rattle.catalogue.specs.declared.routes.Ask.{Ask}
 use Rattle.catalogue.specs.declared.routes.Route.{Route}
 use Rattle.labels.specs.declared.Slot.{Slot}
-use Rattle.labels.specs.Labels.{table, Frees}
-use Rattle.labels.specs.Workspaces.{ill_sized}
+use Rattle.labels.specs.Workspaces.{ill_sized, AllFree}
 use Rattle.cards.specs.declared.Card.{Card}
-use Rattle.cards.specs.Books.{Network, Book, with_links, with_cards, with_card, leg_count, legs_at}
+use Rattle.cards.specs.Books.{Network, Book, with_links, with_cards, card_of, with_card, leg_count, legs_at}
 use Rattle.cards.specs.Doubts.{Doubted, struck_by_offer, struck_by_change, struck_by_withdrawal}
 
 -- Why a call is refused: its causes in the order of the table of refusals, each with whether it holds. The topmost that holds is reported.
@@ -70,13 +69,9 @@ legs_of (Some card) = leg_count card.answer
 abbrev pub read_causes : {V L : Type 0} → Book V L → ℕ → ℕ → ℕ → List (Bool × Refusal)
 read_causes b room card start = no_card b card ∷ card_empty b card ∷ (nat_lt room (start + legs_of (at b.cards card)), ReplyTooShort) ∷ []
 
--- a workspace with every label free
-abbrev pub Emptied : {V L : Type 0} → Kind V L → List (Slot V) → Type 0
-Emptied K labels = Frees (table K labels) (length labels)
-
 -- a standing card that was asked this, with this answer
 abbrev pub standing_card : {V L : Type 0} → Ask L → Option (Route V) → Card V L
-standing_card ask answer = record { ask = ask; answer = answer; mark = Standing }
+standing_card ask answer = card_of ask answer Standing
 
 -- The full outcome of each call: one way for each way that it can end. What a call leaves stands after its answer; whatever is not named
 -- there is only looked at.
@@ -106,9 +101,9 @@ pub data Withdrawn {V L : Type 0} (K : Kind V L) (n : Network V) (b : Book V L) 
 pub data Quoted {V L : Type 0} (K : Kind V L) (n : Network V) (b : Book V L) (labels : List (Slot V)) (card : ℕ) (ask : Ask L) (k : ℕ) : Result (Option (Route V)) Refusal → Book V L → List (Slot V) → Type 0 where
   quote_refused : (why : Refusal) → topmost (quote_causes K n b (length labels) card ask k) ≡ Some why → Quoted K n b labels card ask k (Err why) b labels
   quote_full : (site : ℕ) (labels' : List (Slot V)) → topmost (quote_causes K n b (length labels) card ask k) ≡ None →
-      Overfull K n.links ask k site → Emptied K labels' → Quoted K n b labels card ask k (Err (LabelsFull site)) b labels'
+      Overfull K n.links ask k site → AllFree K labels' → Quoted K n b labels card ask k (Err (LabelsFull site)) b labels'
   quoted : (answer : Option (Route V)) (legs : List ℕ) (labels' : List (Slot V)) → topmost (quote_causes K n b (length labels) card ask k) ≡ None →
-      Found K n.links ask answer legs → Emptied K labels' →
+      Found K n.links ask answer legs → AllFree K labels' →
       Quoted K n b labels card ask k (Ok answer) (with_card b card (Some (standing_card ask answer)) legs) labels'
 
 -- a recheck: likewise; a standing card is only looked at
@@ -117,10 +112,10 @@ pub data Rechecked {V L : Type 0} (K : Kind V L) (n : Network V) (b : Book V L) 
   still_standing : (it : Card V L) → topmost (recheck_causes n b (length labels) card k) ≡ None →
       at b.cards card ≡ Some it → it.mark ≡ Standing → Rechecked K n b labels card k (Ok it.answer) b labels
   recheck_full : (it : Card V L) (site : ℕ) (labels' : List (Slot V)) → topmost (recheck_causes n b (length labels) card k) ≡ None →
-      at b.cards card ≡ Some it → it.mark ≡ Doubtful → Overfull K n.links it.ask k site → Emptied K labels' →
+      at b.cards card ≡ Some it → it.mark ≡ Doubtful → Overfull K n.links it.ask k site → AllFree K labels' →
       Rechecked K n b labels card k (Err (LabelsFull site)) b labels'
   rechecked : (it : Card V L) (answer : Option (Route V)) (legs : List ℕ) (labels' : List (Slot V)) → topmost (recheck_causes n b (length labels) card k) ≡ None →
-      at b.cards card ≡ Some it → it.mark ≡ Doubtful → Found K n.links it.ask answer legs → Emptied K labels' →
+      at b.cards card ≡ Some it → it.mark ≡ Doubtful → Found K n.links it.ask answer legs → AllFree K labels' →
       Rechecked K n b labels card k (Ok answer) (with_card b card (Some (standing_card it.ask answer)) legs) labels'
 
 -- a discard: the answer, and the quote book afterwards

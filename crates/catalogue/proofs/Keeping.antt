@@ -5,31 +5,12 @@ use Rattle.measure.specs.Kind.{Kind}
 use Rattle.report.specs.declared.Refusal.{Refusal}
 use Rattle.report.specs.declared.Refusal.TheVariants.{LinkEmpty}
 use Rattle.report.specs.Refusals.{topmost, unless, filled_or}
+use Rattle.report.proofs.Clearing.{some_same, none_some, cleared}
 use Rattle.catalogue.specs.declared.Link.{Link}
 use Rattle.catalogue.specs.Places.{at}
 use Rattle.catalogue.specs.Walks.{Holds}
 use Rattle.catalogue.specs.Calls.{store_causes, stored, replace_causes, replaced, revalued, remove_causes, removed}
 use Rattle.catalogue.specs.Routes.{Sound, SoundLink}
-
-some_same : {A : Type 0} {a b : A} → Some a ≡ Some b → a ≡ b
-some_same e = cc
-
-none_some : {A : Type 0} {a : A} → None ≡ Some a → ⊥
-none_some e = both_ways false refl (ap is_some e)
-
--- every cause passes
-abbrev Each : (Bool × Refusal → Type 0) → List (Bool × Refusal) → Type 0
-Each P [] = Unit {0}
-Each P (c ∷ cs) = P c × Each P cs
-
-cond_none : {A : Type 0} (b : Bool) (x : A) (t : Option A) → cond b (Some x) t ≡ None → (b ≡ false) × (t ≡ None)
-cond_none true x t e = absurd (none_some (sym e))
-cond_none false x t e = (refl, e)
-
--- no cause holds where none is reported
-cleared : (cs : List (Bool × Refusal)) → topmost cs ≡ None → Each (λ c. c.0 ≡ false) cs
-cleared [] e = tt
-cleared (c ∷ cs) e = let h = cond_none c.0 c.1 (topmost cs) e in (h.0, cleared cs h.1)
 
 -- what is so where a call is refused, and where it is carried out, is so
 either : {A B : Type 0} (P : B → Type 0) (f : A → B) (b : B) (o : Option Refusal) (r : Result A Refusal) → P b → (o ≡ None → (a : A) → r ≡ Ok a → P (f a)) → P (elim (unless o r) [ Ok a ↦ f a | Err _ ↦ b ])
@@ -42,7 +23,8 @@ filled_some why (Some x) a e = cc
 filled_some why None a e = absurd (let z : Err why ≡ Ok a = e in cc)
 
 module _ {V : Type 0} (links : List (Option (Link V))) (place : ℕ) (y : Option (Link V)) where
-  holds_set : place < length links → (p s t : ℕ) (c : V) → Holds (set links place y) p s t c →
+  -- a link that stands somewhere after a write stood there before, or is what was written
+  pub holds_set : place < length links → (p s t : ℕ) (c : V) → Holds (set links place y) p s t c →
       Holds links p s t c ⊎ ((p ≡ place) × (y ≡ Some (record { start = s; end = t; value = c })))
   holds_set lt p s t c has =
       ⊎_elim
@@ -55,6 +37,7 @@ module _ {V : Type 0} (links : List (Option (Link V))) (place : ℕ) (y : Option
       ((s t : ℕ) (c : V) → y ≡ Some (record { start = s; end = t; value = c }) → SoundLink K sites s t c) → Sound K sites (set links place y)
   sound_set sites lt sound new = record {
     sites_few = sound.sites_few;
+    places_some = λ some. rw length-set (sound.places_some some);
     places_few = λ some. rw length-set (sound.places_few some);
     each = λ p s t c has. ⊎_elim (sound.each p s t c) (λ h. new s t c h.1) (holds_set lt p s t c has);
   }

@@ -12,5 +12,5 @@ abbrev pub limit_out : {V L : Type 0} → Kind V L → Ask L → Bool
 limit_out K ask = not (K.limit_admitted ask.limit)
 
 -- a row with these legs, then zeros
-abbrev pub row_of : List ℕ → ℕ → List ℕ
-row_of legs n = legs ++ replicate (n - length legs) 0
+abbrev pub row_with : List ℕ → ℕ → List ℕ
+row_with legs n = legs ++ replicate (n - length legs) 0

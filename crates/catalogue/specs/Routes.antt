@@ -14,9 +14,10 @@ pub record SoundLink {V L : Type 0} (K : Kind V L) (sites s t : ℕ) (c : V) : T
   pub ends_apart : s ≡ t → ⊥
   pub admitted : K.admitted c ≡ true
 
--- a catalogue as its calls make it: of a size that can be opened, and every link is such
+-- a catalogue as its calls make it: it has no sites, or 1 to 256 sites and 1 to 4,096 places; and every link is such
 pub record Sound {V L : Type 0} (K : Kind V L) (sites : ℕ) (links : List (Option (Link V))) : Type 0 where
   pub sites_few : sites ≤ 256
+  pub places_some : 0 < sites → 1 ≤ length links
   pub places_few : 0 < sites → length links ≤ 4096
   pub each : (p s t : ℕ) (c : V) → Holds links p s t c → SoundLink K sites s t c
 

@@ -69,6 +69,7 @@ pub fn check_size(sites: usize, places: usize) -> Result<(), Refusal>
 fn opened_sites(sites: usize, places: usize) -> usize
     ensures value { result ≡ opened_sites sites places }
     ensures few_sites { result ≤ 256 }
+    ensures some_places { 0 < result → 1 ≤ places }
     ensures few_places { 0 < result → places ≤ 4096 }
 {
     if check_size(sites, places).is_ok() {

@@ -11,7 +11,7 @@ use Rattle.measure.specs.declared.Ratio.{Ratio}
 use Rattle.labels.specs.declared.Label.{Label}
 use Rattle.labels.specs.declared.Slot.{Slot}
 use Rattle.labels.specs.Labels.{is_held, is_queued, In, Waits, Fits, slot, table}
-use Rattle.labels.specs.Tournament.{named, Above, Precedes, Better, SiteBest, Shares, Unused, Inside, Grounds, Noted, NotedBut, NotedUnder, SameLabels, SameUsed, SameLinks}
+use Rattle.labels.specs.Tournament.{named, Above, Precedes, Better, SiteBest, Shares, Unused, Inside, Grounds, Noted, NotedBut, NotedUnder, SameLabels, SameUsed, SameLists}
 use Rattle.labels.proofs.Chains.{one_site, waits_held}
 use Rattle.labels.proofs.Writes.{slot_read}
 use Rattle.labels.proofs.Nodes.{above_parent, above_root, named_inner, named_leaf, named_other, named_rest, named_same, site_room, sites_few}
@@ -142,7 +142,7 @@ pub record Rises {V L : Type 0} (K : Kind V L) (l : L) (U W : ℕ → Slot V) (k
   pub under : NotedUnder K l (λ p. (W p).label) W k n j
   pub labels : SameLabels U W
   pub used : SameUsed U W
-  pub links : SameLinks U W
+  pub links : SameLists U W
 
 module _ {V L : Type 0} {K : Kind V L} {l : L} {U W : ℕ → Slot V} {k n j w : ℕ} (h : Rises K l U W k n j w) where
   pub rises_inside : w < n * k
@@ -156,7 +156,7 @@ module _ {V L : Type 0} {K : Kind V L} {l : L} {U W : ℕ → Slot V} {k n j w :
 
   -- one level more, where the winner of the parent is written and nothing else
   pub rises_more : (X : ℕ → Slot V) (r : ℕ) → 1 < j → Better K l (λ p. (W p).label) w (named W n (bit_xor j 1)) r →
-      (X (j / 2)).winner ≡ r → ((i : ℕ) → (i ≡ j / 2 → ⊥) → (X i).winner ≡ (W i).winner) → ((s : ℕ) → (X s).best ≡ (W s).best) → SameLabels W X → SameUsed W X → SameLinks W X → Rises K l U X k n (j / 2) r
+      (X (j / 2)).winner ≡ r → ((i : ℕ) → (i ≡ j / 2 → ⊥) → (X i).winner ≡ (W i).winner) → ((s : ℕ) → (X s).best ≡ (W s).best) → SameLabels W X → SameUsed W X → SameLists W X → Rises K l U X k n (j / 2) r
   rises_more X r two better here winners bests labels used links = record {
     some = omega arith;
     low = omega (arith, h.low);

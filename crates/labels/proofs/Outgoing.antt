@@ -10,7 +10,7 @@ use Rattle.catalogue.proofs.Walking.{holds_one}
 use Rattle.labels.specs.declared.Label.{Label}
 use Rattle.labels.specs.declared.Slot.{Slot}
 use Rattle.labels.specs.Labels.{slot, blank_slot, Opens}
-use Rattle.labels.specs.Tournament.{SameLabels, SameLinks}
+use Rattle.labels.specs.Tournament.{SameLabels, SameLists}
 use Rattle.labels.specs.Outgoing.{Skips, Lands, FirstFrom, Listed}
 use Rattle.labels.proofs.Chains.{one_site}
 use Rattle.labels.proofs.Finding.{holds_inside}
@@ -48,7 +48,7 @@ module _ {V : Type 0} (links : List (Option (Link V))) where
   next_listed W n s i listed lt inside lands = let (t, c, h) = lands inside in listed.nexts i s t c (omega arith) lt h
 
   -- where the notes of the links stay, so do the lists
-  pub listed_same : (W X : ℕ → Slot V) (n i : ℕ) → SameLinks W X → Listed links W n i → Listed links X n i
+  pub listed_same : (W X : ℕ → Slot V) (n i : ℕ) → SameLists W X → Listed links W n i → Listed links X n i
   listed_same W X n i same listed = record {
     firsts = λ s lt. subst (FirstFrom links s i) (sym (same s).0) (listed.firsts s lt);
     nexts = λ p s t c ge lt h. subst (FirstFrom links s (p + 1)) (sym (same p).1) (listed.nexts p s t c ge lt h);

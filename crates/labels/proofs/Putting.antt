@@ -8,7 +8,7 @@ use Rattle.labels.specs.declared.State.TheVariants.{Settled}
 use Rattle.labels.specs.declared.Label.{Label}
 use Rattle.labels.specs.declared.Slot.{Slot}
 use Rattle.labels.specs.Labels.{is_held, is_queued, In, Held, Waits, Fits, Frees, Settles, Swept, Adds, blank_slot, slot, table}
-use Rattle.labels.specs.Tournament.{Unused, Grounds, Noted, NotedBut, Entered, Wrote, SameLabels, SameWinners, SameUsed, SameLinks}
+use Rattle.labels.specs.Tournament.{Unused, Grounds, Noted, NotedBut, Entered, Wrote, SameLabels, SameWinners, SameUsed, SameLists}
 use Rattle.labels.proofs.Chains.{one_site, done_held, waits_held}
 use Rattle.labels.proofs.Climbing.{changed}
 use Rattle.labels.proofs.Writes.{slot_same, slot_other, slot_stays}
@@ -142,7 +142,7 @@ module _ {V L : Type 0} {K : Kind V L} {W X : ℕ → Slot V} {k t : ℕ} {v : V
     pub put_done : (Z : ℕ → Slot V) → SameLabels Y Z → Adds K (labels_of W) (λ p. (Z p).label) (t * k) (t * k + k) x y
     put_done Z same = swept_adds K swept (λ p. (Z p).label) x y val at free ((same x).0 ∙ puts.here) (λ p ne. (same p).0 ∙ (puts.other p ne).0)
 
-    pub put_links : (Z : ℕ → Slot V) → SameLinks Y Z → SameLinks W Z
+    pub put_links : (Z : ℕ → Slot V) → SameLists Y Z → SameLists W Z
     put_links Z same p =
         ((same p).0 ∙ (puts.links p).0 ∙ (swept.links p).0, (same p).1 ∙ (puts.links p).1 ∙ (swept.links p).1)
 
@@ -150,7 +150,7 @@ module _ {V L : Type 0} {K : Kind V L} {W X : ℕ → Slot V} {k t : ℕ} {v : V
 pub settles_same : {V : Type 0} {A B C : ℕ → Label V} {h : ℕ} → Settles A B h → ((p : ℕ) → C p ≡ B p) → Settles A C h
 settles_same {h = h} steps same = record { here = same h ∙ steps.here; other = λ p ne. same p ∙ steps.other p ne }
 
-pub links_trans : {V : Type 0} (W X Y : ℕ → Slot V) → SameLinks W X → SameLinks X Y → SameLinks W Y
+pub links_trans : {V : Type 0} (W X Y : ℕ → Slot V) → SameLists W X → SameLists X Y → SameLists W Y
 links_trans W X Y one two p = ((two p).0 ∙ (one p).0, (two p).1 ∙ (one p).1)
 
 -- the label at h, of the site t, was settled: the place has another state, and nothing else is changed
@@ -165,7 +165,7 @@ module _ {V L : Type 0} (K : Kind V L) (xs : List (Slot V)) (h : ℕ) (y : Slot 
     other = λ p ne. ap (λ z. z.label) (slot_other K xs h y low p ne);
   }
 
-  pub settled_links : SameLinks (slot K xs) (slot K (set xs h y))
+  pub settled_links : SameLists (slot K xs) (slot K (set xs h y))
   settled_links p = (keeps (λ z. z.first) same.5 p, keeps (λ z. z.next) same.6 p)
 
   settled_value : (p : ℕ) → ((slot K (set xs h y)) p).label.value ≡ (table K xs p).value

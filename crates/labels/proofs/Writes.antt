@@ -6,7 +6,7 @@ use Rattle.measure.specs.Kind.{Kind}
 use Rattle.measure.specs.Ranks.{Fit}
 use Rattle.labels.specs.declared.Slot.{Slot}
 use Rattle.labels.specs.Labels.{is_held, Fits, blank_slot, slot, table}
-use Rattle.labels.specs.Tournament.{SameLabels, SameUsed, SameLinks}
+use Rattle.labels.specs.Tournament.{SameLabels, SameUsed, SameLists}
 
 -- what a write at t leaves of the places
 module _ {V L : Type 0} (K : Kind V L) (xs : List (Slot V)) (t : ℕ) (y : Slot V) (low : t < length xs) where
@@ -43,7 +43,7 @@ module _ {V L : Type 0} (K : Kind V L) (xs : List (Slot V)) (i : ℕ) (y : Slot 
         (label ∙ ap (λ z. z.label) (get_or_default xs i r (blank_slot K) low) ∙ (h i).0, share ∙ ap (λ z. z.share) (get_or_default xs i r (blank_slot K) low) ∙ (h i).1)
         (λ p ne. h p)
 
-    pub links_on : y.first ≡ (get_or xs i r).first → y.next ≡ (get_or xs i r).next → SameLinks W (slot K xs) → SameLinks W (slot K (set xs i y))
+    pub links_on : y.first ≡ (get_or xs i r).first → y.next ≡ (get_or xs i r).next → SameLists W (slot K xs) → SameLists W (slot K (set xs i y))
     links_on first next h = written (λ p z. (z.first ≡ (W p).first) × (z.next ≡ (W p).next))
         (first ∙ ap (λ z. z.first) (get_or_default xs i r (blank_slot K) low) ∙ (h i).0, next ∙ ap (λ z. z.next) (get_or_default xs i r (blank_slot K) low) ∙ (h i).1)
         (λ p ne. h p)

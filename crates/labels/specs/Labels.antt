@@ -33,7 +33,7 @@ is_settled Settled = true
 abbrev pub In : ℕ → ℕ → ℕ → Type 0
 In k s p = (s * k ≤ p) × (p < s * k + k)
 
--- a label at a free place, as a workspace begins with
+-- a label at a free place, of which a workspace can be made
 abbrev pub blank : {V L : Type 0} → Kind V L → Label V
 blank K = record { state = Free; value = K.empty; previous = 0; link = 0 }
 

@@ -97,8 +97,8 @@ module _ {V : Type 0} (W X : ℕ → Slot V) where
   SameUsed = (p : ℕ) → (X p).used ≡ (W p).used
 
   -- the same lists of links
-  abbrev pub SameLinks : Type 0
-  SameLinks = (p : ℕ) → ((X p).first ≡ (W p).first) × ((X p).next ≡ (W p).next)
+  abbrev pub SameLists : Type 0
+  SameLists = (p : ℕ) → ((X p).first ≡ (W p).first) × ((X p).next ≡ (W p).next)
 
 -- a queued label came to the place x of the site t, and the notes are right for the labels before
 pub record Entered {V L : Type 0} (K : Kind V L) (l : L) (C : ℕ → Label V) (X : ℕ → Slot V) (k n t x : ℕ) : Type 0 where
@@ -118,4 +118,4 @@ pub record Wrote {V L : Type 0} (K : Kind V L) (l : L) (X Y : ℕ → Slot V) (x
   pub other : (p : ℕ) → (p ≡ x → ⊥) → ((Y p).label ≡ (X p).label) × ((Y p).share ≡ (X p).share)
   pub winners : SameWinners X Y
   pub used : SameUsed X Y
-  pub links : SameLinks X Y
+  pub links : SameLists X Y

@@ -13,7 +13,7 @@ pub enum State {
 }
 
 // A walk that is held: its value, its last link, and the place of the label that it extends. A label that extends none names itself.
-// It is named by its place, since there is no heap: the labels of all sites lie in one slice that the caller lends.
+// It is named by its place: the labels of all sites lie in one slice that the caller lends.
 #[derive(Clone, Copy, PartialEq, Eq, Debug)]
 pub struct Label<M> {
     pub state: State,

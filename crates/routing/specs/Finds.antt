@@ -6,7 +6,7 @@ use Rattle.report.specs.declared.Refusal.TheVariants.{LabelsFull}
 use Rattle.catalogue.specs.declared.Link.{Link}
 use Rattle.catalogue.specs.Walks.{Holds, Walk, Simple}
 use Rattle.catalogue.specs.Routes.{Outside, Crowded}
-use Rattle.catalogue.specs.Asks.{row_of}
+use Rattle.catalogue.specs.Asks.{row_with}
 use Rattle.catalogue.specs.declared.routes.Ask.{Ask}
 use Rattle.labels.specs.declared.Label.{Label}
 use Rattle.labels.specs.declared.Slot.{Slot}
@@ -26,7 +26,7 @@ EndsSo K l cat k src dst A (Err why) = IsFull K l cat k src why
 
 -- the row has these legs, then zeros: a walk from s to t of the value w that comes by no site twice
 abbrev pub WroteLegs : {V L : Type 0} → Kind V L → List (Option (Link V)) → ℕ → ℕ → V → ℕ → List ℕ → ℕ → Type 0
-WroteLegs K cat s t w n row r = (legs : List ℕ) × (row ≡ row_of legs n) × (r ≡ length legs) × Walk K (Holds cat) s legs t w × Simple (Holds cat) s legs
+WroteLegs K cat s t w n row r = (legs : List ℕ) × (row ≡ row_with legs n) × (r ≡ length legs) × Walk K (Holds cat) s legs t w × Simple (Holds cat) s legs
 
 -- what a call that is not refused knows of its arguments
 pub record Admits {V L : Type 0} (K : Kind V L) (sites room k : ℕ) (ask : Ask L) (row : ℕ) : Type 0 where

@@ -6,7 +6,7 @@ ghost use Rattle.catalogue.specs.Walks.{Holds, Walk, Simple};
 ghost use Rattle.catalogue.specs.Routes.{Sound};
 ghost use Rattle.labels.specs.Labels.{is_held, is_queued, slot, table, In, Held, Waits, Settles, Adds, Swept, Steady, Offered, OffersNone, Opens, Rests, Wins, Fits, Frees, Starts};
 ghost use Rattle.labels.specs.Outgoing.{Listed};
-ghost use Rattle.labels.specs.Tournament.{Unused, Noted, SameUsed, SameLinks};
+ghost use Rattle.labels.specs.Tournament.{Unused, Noted, SameUsed, SameLists};
 ghost use Rattle.routing.specs.Finds.{IsFull, EndsSo, WroteLegs, Indexed};
 ghost use Rattle.report.specs.declared.Refusal.TheVariants.{LabelsFull};
 

@@ -1,7 +1,8 @@
 //! The memory that is lent to a search.
 ghost use Rattle.std.specs.Prelude.{◌≡◌, length, map};
 ghost use Rattle.std.proofs.Props.{props};
-ghost use Rattle.labels.specs.Labels.{table, freed, Frees};
+ghost use Rattle.labels.specs.Labels.{freed};
+ghost use Rattle.labels.specs.Workspaces.{AllFree};
 
 use crate::scan::free_all;
 use labels::Slot;
@@ -11,7 +12,7 @@ use measure::Measure;
 #[derive(Drop)]
 pub struct Workspace<'a, M: Measure> {
     pub(crate) slots: &'a mut [Slot<M>],
-    ghost free: { Frees (table M.Measure.kind slots.now) (length slots.now) } by { Prim.hlevel props },
+    ghost free: { AllFree M.Measure.kind slots.now } by { Prim.hlevel props },
 }
 
 impl<'a, M: Measure> Workspace<'a, M> {

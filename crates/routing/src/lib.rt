@@ -8,7 +8,7 @@ ghost use Rattle.report.specs.Refusals.{topmost, unless, InOrder};
 ghost use Rattle.labels.specs.Labels.{blank_slot, table, Frees, slot};
 ghost use Rattle.routing.specs.Finds.{Admits};
 ghost use Rattle.routing.specs.Lent.{labels_of, SameWorkspace};
-ghost use Rattle.labels.specs.Workspaces.{ill_sized};
+ghost use Rattle.labels.specs.Workspaces.{ill_sized, AllFree};
 ghost use Rattle.routing.specs.Searching.{ask_causes, route_causes, Answered, Searched};
 
 use catalogue::{Ask, Links, Route};
@@ -89,14 +89,14 @@ fn check<M: Measure>(
     Ok(())
 }
 
-// Explores a sound network from free places on, and writes the legs of the route that it finds.
+// Explores the network from free places on, and writes the legs of the route that it finds.
 fn first_route<M: Measure, N: Links<M>>(
     exploration: &Exploration<'_, M, N>,
     slots: &mut [Slot<M>],
     row: &mut [u16],
 ) -> Result<Option<Route<M>>, Refusal>
     requires size { length slots.old ≡ exploration.now.tournament.sites * exploration.now.tournament.k }
-    requires free { Frees (table M.Measure.kind slots.old) (length slots.old) }
+    requires free { AllFree M.Measure.kind slots.old }
     requires listed { length (N.Links.links exploration.now.network.now) ≤ length slots.old → Listed (N.Links.links exploration.now.network.now) (slot M.Measure.kind slots.old) exploration.now.tournament.sites 0 }
     requires fits { exploration.now.tournament.sites ≤ length row.old }
     ensures unused { Unused (table M.Measure.kind slots.new) (slot M.Measure.kind slots.new) exploration.now.tournament.k exploration.now.tournament.sites }
@@ -121,8 +121,8 @@ fn find<M: Measure, N: Links<M>>(
     row: &mut [u16],
 ) -> Result<Option<Route<M>>, Refusal>
     requires admits { Admits M.Measure.kind (N.Links.span network.now) (length slots.old) k ask (length row.old) }
-    requires free { Frees (table M.Measure.kind slots.old) (length slots.old) }
-    ensures free { Frees (table M.Measure.kind slots.new) (length slots.new) }
+    requires free { AllFree M.Measure.kind slots.old }
+    ensures free { AllFree M.Measure.kind slots.new }
     ensures answered { Answered M.Measure.kind (N.Links.links network.now) k ask row.old row.new result }
 {
     list_links(network, slots);
@@ -149,9 +149,9 @@ fn find_checked<M: Measure, N: Links<M>>(
     ask: Ask<M::Limit>,
     row: &mut [u16],
 ) -> Result<Option<Route<M>>, Refusal>
-    requires { Frees (table M.Measure.kind slots.old) (length slots.old) }
+    requires { AllFree M.Measure.kind slots.old }
     ensures searched { Searched M.Measure.kind (N.Links.span network.now) (N.Links.links network.now) k ask slots.old slots.new row.old row.new result }
-    ensures free { Frees (table M.Measure.kind slots.new) (length slots.new) }
+    ensures free { AllFree M.Measure.kind slots.new }
 {
     check::<M>(network.sites(), slots.len(), k, ask, row.len())?;
     find(network, slots, k, ask, row)

@@ -2,7 +2,7 @@
 ghost use Rattle.std.specs.Prelude.{◌≡◌, ℕ, ◌+◌, ◌*◌, ◌<◌, ◌≤◌, true, false, length, MatchOption, MatchResult};
 ghost use Rattle.measure.specs.Ranks.{Fit};
 ghost use Rattle.labels.specs.Labels.{is_held, is_queued, slot, table, In, Held, Waits, Settles, Adds, Swept, Fits, Frees, Starts};
-ghost use Rattle.labels.specs.Tournament.{Unused, Noted, Wrote, SameLabels, SameWinners, SameUsed, SameLinks};
+ghost use Rattle.labels.specs.Tournament.{Unused, Noted, Wrote, SameLabels, SameWinners, SameUsed, SameLists};
 ghost use Rattle.report.specs.declared.Refusal.TheVariants.{LabelsFull};
 
 use crate::scan::{clear_dominated, free_all, free_place, is_dominated};
@@ -109,7 +109,7 @@ impl<M: Measure> Tournament<M> {
         requires fit { Fit M.Measure.kind self.now.limit newcomer.value }
         requires waits { is_queued newcomer.state ≡ true }
         ensures unused { Unused (table M.Measure.kind slots.new) (slot M.Measure.kind slots.new) self.now.k self.now.sites }
-        ensures links { SameLinks (slot M.Measure.kind slots.old) (slot M.Measure.kind slots.new) }
+        ensures links { SameLists (slot M.Measure.kind slots.old) (slot M.Measure.kind slots.new) }
         ensures put { MatchResult result (λ _. (x : ℕ) × Adds M.Measure.kind (table M.Measure.kind slots.old) (table M.Measure.kind slots.new) (site * self.now.k) (site * self.now.k + self.now.k) x newcomer × Noted M.Measure.kind self.now.limit (table M.Measure.kind slots.new) (slot M.Measure.kind slots.new) self.now.k self.now.sites) (λ why. (why ≡ LabelsFull site) × ((p : ℕ) → In self.now.k site p → Held (table M.Measure.kind slots.old) p × (Waits (table M.Measure.kind slots.old) p → M.Measure.kind.dominates newcomer.value (table M.Measure.kind slots.old p).value ≡ false))) }
     {
         let place = self.make_room(slots, site, newcomer.value)?;
@@ -128,7 +128,7 @@ impl<M: Measure> Tournament<M> {
         requires noted { Noted M.Measure.kind self.now.limit (table M.Measure.kind slots.old) (slot M.Measure.kind slots.old) self.now.k self.now.sites }
         ensures settles { Settles (table M.Measure.kind slots.old) (table M.Measure.kind slots.new) h }
         ensures noted { Noted M.Measure.kind self.now.limit (table M.Measure.kind slots.new) (slot M.Measure.kind slots.new) self.now.k self.now.sites }
-        ensures links { SameLinks (slot M.Measure.kind slots.old) (slot M.Measure.kind slots.new) }
+        ensures links { SameLists (slot M.Measure.kind slots.old) (slot M.Measure.kind slots.new) }
     {
         slots[h].label.state = State::Settled;
         self.refresh(slots, site);
@@ -139,7 +139,7 @@ impl<M: Measure> Tournament<M> {
         requires { site < length slots.old }
         ensures labels { SameLabels (slot M.Measure.kind slots.old) (slot M.Measure.kind slots.new) }
         ensures winners { SameWinners (slot M.Measure.kind slots.old) (slot M.Measure.kind slots.new) }
-        ensures links { SameLinks (slot M.Measure.kind slots.old) (slot M.Measure.kind slots.new) }
+        ensures links { SameLists (slot M.Measure.kind slots.old) (slot M.Measure.kind slots.new) }
         ensures here { (slot M.Measure.kind slots.new site).used ≡ 1 }
         ensures other { (s : ℕ) → (s ≡ site → ⊥) → (slot M.Measure.kind slots.new s).used ≡ (slot M.Measure.kind slots.old s).used }
     {
@@ -153,7 +153,7 @@ impl<M: Measure> Tournament<M> {
         requires free { Frees (table M.Measure.kind slots.old) (length slots.old) }
         ensures starts { Starts M.Measure.kind (table M.Measure.kind slots.new) (site * self.now.k) }
         ensures noted { Noted M.Measure.kind self.now.limit (table M.Measure.kind slots.new) (slot M.Measure.kind slots.new) self.now.k self.now.sites }
-        ensures links { SameLinks (slot M.Measure.kind slots.old) (slot M.Measure.kind slots.new) }
+        ensures links { SameLists (slot M.Measure.kind slots.old) (slot M.Measure.kind slots.new) }
     {
         self.seed(slots);
         let place = self.first_place(site);

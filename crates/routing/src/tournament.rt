@@ -2,7 +2,7 @@
 ghost use Rattle.std.specs.Prelude.{◌≡◌, ℕ, ◌+◌, ◌*◌, ◌<◌, ◌≤◌, true, ◌&&◌, ◌||◌, length};
 ghost use Rattle.measure.specs.Ratios.{less, equal};
 ghost use Rattle.labels.specs.Labels.{is_queued, slot, table, Beaten, Fits, FirstBelow, Frees};
-ghost use Rattle.labels.specs.Tournament.{named, Better, SiteBest, Shares, Inside, Grounds, Noted, NotedBut, NotedUnder, Entered, SameLabels, SameUsed, SameLinks};
+ghost use Rattle.labels.specs.Tournament.{named, Better, SiteBest, Shares, Inside, Grounds, Noted, NotedBut, NotedUnder, Entered, SameLabels, SameUsed, SameLists};
 
 use labels::{Slot, State};
 use measure::{Measure, Ratio};
@@ -106,7 +106,7 @@ impl<M: Measure> Tournament<M> {
         ensures noted { Noted M.Measure.kind self.now.limit (table M.Measure.kind slots.new) (slot M.Measure.kind slots.new) self.now.k self.now.sites }
         ensures labels { SameLabels (slot M.Measure.kind slots.old) (slot M.Measure.kind slots.new) }
         ensures used { SameUsed (slot M.Measure.kind slots.old) (slot M.Measure.kind slots.new) }
-        ensures links { SameLinks (slot M.Measure.kind slots.old) (slot M.Measure.kind slots.new) }
+        ensures links { SameLists (slot M.Measure.kind slots.old) (slot M.Measure.kind slots.new) }
     {
         let mut node = self.sites + site;
         let mut winner = slots[site].best as usize;
@@ -127,7 +127,7 @@ impl<M: Measure> Tournament<M> {
         ensures noted { Noted M.Measure.kind self.now.limit (table M.Measure.kind slots.new) (slot M.Measure.kind slots.new) self.now.k self.now.sites }
         ensures labels { SameLabels (slot M.Measure.kind slots.old) (slot M.Measure.kind slots.new) }
         ensures used { SameUsed (slot M.Measure.kind slots.old) (slot M.Measure.kind slots.new) }
-        ensures links { SameLinks (slot M.Measure.kind slots.old) (slot M.Measure.kind slots.new) }
+        ensures links { SameLists (slot M.Measure.kind slots.old) (slot M.Measure.kind slots.new) }
     {
         let best = self.rescan(slots, site);
         slots[site].best = best as u16;
@@ -171,7 +171,7 @@ impl<M: Measure> Tournament<M> {
         ensures noted { Noted M.Measure.kind self.now.limit (table M.Measure.kind slots.new) (slot M.Measure.kind slots.new) self.now.k self.now.sites }
         ensures labels { SameLabels (slot M.Measure.kind slots.old) (slot M.Measure.kind slots.new) }
         ensures used { SameUsed (slot M.Measure.kind slots.old) (slot M.Measure.kind slots.new) }
-        ensures links { SameLinks (slot M.Measure.kind slots.old) (slot M.Measure.kind slots.new) }
+        ensures links { SameLists (slot M.Measure.kind slots.old) (slot M.Measure.kind slots.new) }
     {
         let best = slots[site].best as usize;
         if best == place || self.better(slots, best, place) == place {
@@ -186,7 +186,7 @@ impl<M: Measure> Tournament<M> {
         ensures bests { (s : ℕ) → s < self.now.sites → (slot M.Measure.kind slots.new s).best ≡ s * self.now.k }
         ensures unused { (s : ℕ) → s < self.now.sites → (slot M.Measure.kind slots.new s).used ≡ 0 }
         ensures labels { SameLabels (slot M.Measure.kind slots.old) (slot M.Measure.kind slots.new) }
-        ensures links { SameLinks (slot M.Measure.kind slots.old) (slot M.Measure.kind slots.new) }
+        ensures links { SameLists (slot M.Measure.kind slots.old) (slot M.Measure.kind slots.new) }
     {
         for site in 0..self.sites {
             let slot = &mut slots[site];
@@ -204,7 +204,7 @@ impl<M: Measure> Tournament<M> {
         ensures bests { (s : ℕ) → (slot M.Measure.kind slots.new s).best ≡ (slot M.Measure.kind slots.old s).best }
         ensures labels { SameLabels (slot M.Measure.kind slots.old) (slot M.Measure.kind slots.new) }
         ensures used { SameUsed (slot M.Measure.kind slots.old) (slot M.Measure.kind slots.new) }
-        ensures links { SameLinks (slot M.Measure.kind slots.old) (slot M.Measure.kind slots.new) }
+        ensures links { SameLists (slot M.Measure.kind slots.old) (slot M.Measure.kind slots.new) }
     {
         for node in (1..self.sites).rev() {
             slots[node].winner = self.named(slots, 2 * node) as u16;
@@ -217,7 +217,7 @@ impl<M: Measure> Tournament<M> {
         requires free { Frees (table M.Measure.kind slots.old) (length slots.old) }
         ensures noted { Noted M.Measure.kind self.now.limit (table M.Measure.kind slots.new) (slot M.Measure.kind slots.new) self.now.k self.now.sites }
         ensures labels { SameLabels (slot M.Measure.kind slots.old) (slot M.Measure.kind slots.new) }
-        ensures links { SameLinks (slot M.Measure.kind slots.old) (slot M.Measure.kind slots.new) }
+        ensures links { SameLists (slot M.Measure.kind slots.old) (slot M.Measure.kind slots.new) }
         ensures unused { (s : ℕ) → s < self.now.sites → (slot M.Measure.kind slots.new s).used ≡ 0 }
     {
         self.seed_sites(slots);

@@ -14,7 +14,7 @@ use Rattle.cards.specs.declared.Call.TheVariants.{Read}
 use Rattle.cards.specs.Books.{Book, SoundBook, leg_count, legs_at}
 use Rattle.cards.specs.Calls.{read_causes, Shown, read_refused, shown}
 use Rattle.cards.specs.Runs.{Reply, Memory, Lent, Outcome, by_offer, by_change, by_withdrawal, by_quote, by_recheck, by_discard, by_reading, counted, emptied, showing}
-use Rattle.cards.proofs.Clearing.{cleared, none_some}
+use Rattle.report.proofs.Clearing.{cleared, none_some}
 use Rattle.service.specs.declared.serving.Service.{Service}
 use Rattle.service.specs.Services.{Performed}
 use Rattle.service.specs.Serving.{TrunkValue, TrunkLimits, call_of, card_read, printed, Legible}

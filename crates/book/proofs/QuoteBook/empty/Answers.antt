@@ -1,5 +1,5 @@
 use Rattle.std.proofs.Common.{None, refl}
-use Rattle.cards.proofs.Clearing.{none_some}
+use Rattle.report.proofs.Clearing.{none_some}
 use Rattle.book.proofs.Sounding.{sound_write}
 use Rattle.book.proofs.QuoteBook.empty.Goals as goal
 

@@ -3,16 +3,16 @@ use lib.Seq.{paste}
 use Rattle.std.proofs.lemmas.Result.{err_from_is_err_and}
 use Rattle.report.specs.declared.Refusal.{Refusal}
 use Rattle.catalogue.specs.declared.routes.Route.{Route}
-use Rattle.catalogue.specs.Asks.{row_of}
-use Rattle.cards.specs.Books.{Book}
+use Rattle.catalogue.specs.Asks.{row_with}
+use Rattle.cards.specs.Books.{Book, card_of}
 use Rattle.book.specs.Stores.{network_of, book_of}
-use Rattle.book.specs.Answers.{CardAnswer, card_of}
+use Rattle.book.specs.Answers.{CardAnswer}
 use Rattle.book.proofs.Booked.{same_book, refiled}
 use Rattle.book.proofs.Refusing.{exits}
 use Rattle.routing.proofs.Refusing.{admits}
 use Rattle.cards.specs.declared.Card.{Card}
 use Rattle.cards.specs.Books.{SoundCard}
-use Rattle.cards.proofs.Clearing.{some_same}
+use Rattle.report.proofs.Clearing.{some_same}
 use Rattle.book.proofs.Sounding.{sound_write, found_few}
 use Rattle.book.proofs.answers.answer_card.Goals as goal
 
@@ -41,8 +41,8 @@ returns g c =
     let (legs, found, few, rows) = told.answer in
     let start = c.row_start-start.ensures in
     let inside : card * w + w ≤ length b.rows = subst (λ (s : ℕ). s + w ≤ length b.rows) start.value start.fits in
-    let left = rows ∙ ap (λ (s : ℕ). paste b.rows s (row_of legs c.width-width.result) c.width-width.result) start.value
-    ∙ ap (λ (n : ℕ). paste b.rows (card * w) (row_of legs n) n) c.width-width.ensures.value in
+    let left = rows ∙ ap (λ (s : ℕ). paste b.rows s (row_with legs c.width-width.result) c.width-width.result) start.value
+    ∙ ap (λ (n : ℕ). paste b.rows (card * w) (row_with legs n) n) c.width-width.ensures.value in
     let room : length legs ≤ w = subst (λ (n : ℕ). length legs ≤ n) c.width-width.ensures.value few in
     record {
       same = told.same;
@@ -57,7 +57,7 @@ invariant_of-book-2 g c =
     let q = c.args.book.now in
     let n = network_of c.args.catalogue.now in
     let ask = c.args.ask in
-    let adm = admits K n.sites (length c.args.workspace.now.slots.now) c.args.k ask q.sites c.requires.free in
+    let adm = admits K n.sites (length c.args.workspace.now.slots.now) c.args.k ask q.sites c.requires.unrefused in
     let (legs, found, room, rows) = c.in_ok-answer.ensures.answer in
     let sound = c.args.catalogue.now.sound in
     let card = card_of ask c.in_ok-answer.answer c.args.mark in

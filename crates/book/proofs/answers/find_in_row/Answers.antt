@@ -18,7 +18,7 @@ returns g c =
     let row = take (start + width - start) (drop start rows) in
     let long : length row ≡ width = simp (length-take, length-drop) (omega arith) in
     let free : topmost (route_causes K sites (length c.args.workspace.now.slots.now) c.args.k c.args.ask (length row)) ≡ None =
-    ap (λ (n : ℕ). topmost (route_causes K sites (length c.args.workspace.now.slots.now) c.args.k c.args.ask n)) long ∙ c.requires.free in
+    ap (λ (n : ℕ). topmost (route_causes K sites (length c.args.workspace.now.slots.now) c.args.k c.args.ask n)) long ∙ c.requires.unrefused in
     let found = searched_free K sites links c.args.k c.args.ask c.args.workspace.now.slots.now row c.find_route.new.workspace.slots.now c.find_route.new.row c.find_route.result free c.find_route.ensures.searched in
     let long' : length c.find_route.new.row ≡ width = omega arith in
     record {

@@ -2,13 +2,13 @@ use Rattle.std.proofs.Common.{◌≡◌, ℕ, ◌-◌, ◌≤◌, List, ◌++◌
 use Rattle.std.proofs.lemmas.List.{append-nil, take_at, drop_all}
 use Rattle.labels.proofs.Tracing.{legs_long}
 use borrow.Rule.Slice.PartMut.{post_of}
-use Rattle.catalogue.specs.Asks.{row_of}
+use Rattle.catalogue.specs.Asks.{row_with}
 use Rattle.routing.proofs.exploration.Exploration.write_legs.Goals as goal
 
 -- legs in front, then zeros to the end
 zeros_after : (front row zeros : List ℕ) (legs : ℕ) → length front ≡ legs → legs ≤ length row →
     (let all : List ℕ = front ++ drop legs row in
-    zeros ≡ replicate (length (take (length all - legs) (drop legs all))) 0 → take legs all ++ (zeros ++ post_of legs (length all - legs) all) ≡ row_of front (length row))
+    zeros ≡ replicate (length (take (length all - legs) (drop legs all))) 0 → take legs all ++ (zeros ++ post_of legs (length all - legs) all) ≡ row_with front (length row))
 zeros_after front row zeros legs long inside filled =
     let all : List ℕ = front ++ drop legs row in
     let size : length all ≡ length row = omega (arith, length-append front (drop legs row), length-drop legs row, long) in
@@ -24,7 +24,7 @@ returns g c =
     let front = c.reverse.ensures.after in
     let long = legs_long row legs low in (
       reverse (take legs row),
-      zeros_after c.reverse.new.self row c.fill.new.self legs (ap length front ∙ long) low (c.fill.ensures.after (λ y e. e)) ∙ ap₂ row_of front (omega arith),
+      zeros_after c.reverse.new.self row c.fill.new.self legs (ap length front ∙ long) low (c.fill.ensures.after (λ y e. e)) ∙ ap₂ row_with front (omega arith),
       sym long,
       c.trace-legs.ensures.walk,
       c.trace-legs.ensures.simple,

@@ -4,7 +4,7 @@ use Rattle.measure.specs.Kind.{Kind}
 use Rattle.measure.specs.declared.ratio.Ratio.{Ratio}
 use Rattle.labels.specs.declared.Label.{Label}
 use Rattle.labels.specs.declared.Slot.{Slot}
-use Rattle.labels.specs.Tournament.{SiteBest, NotedBut, NotedUnder, SameLabels, SameUsed, SameLinks}
+use Rattle.labels.specs.Tournament.{SiteBest, NotedBut, NotedUnder, SameLabels, SameUsed, SameLists}
 use Rattle.labels.specs.Labels.{slot, table}
 use Rattle.labels.proofs.Nodes.{sites_few, site_room}
 use Rattle.labels.proofs.Writes.{slot_same, slot_other, slot_stays, slot_read}
@@ -47,7 +47,7 @@ module _ {V L : Type 0} (K : Kind V L) (xs : List (Slot V)) (site b : ℕ) (x : 
   used : SameUsed (slot K xs) (slot K (set xs site written))
   used = slot_stays K xs site written low ℕ (λ y. y.used) (ap (λ y. y.used) read)
 
-  links : SameLinks (slot K xs) (slot K (set xs site written))
+  links : SameLists (slot K xs) (slot K (set xs site written))
   links p = (slot_stays K xs site written low ℕ (λ y. y.first) (ap (λ y. y.first) read) p, slot_stays K xs site written low ℕ (λ y. y.next) (ap (λ y. y.next) read) p)
 
   under : (l : L) (k n : ℕ) → NotedBut K l (table K xs) (slot K xs) k n site → SiteBest K l (table K xs) k site b → NotedUnder K l (table K (set xs site written)) (slot K (set xs site written)) k n (n + site)

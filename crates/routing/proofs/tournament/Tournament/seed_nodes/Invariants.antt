@@ -1,6 +1,6 @@
 use Rattle.std.proofs.Common.{◌≡◌, ℕ}
 use Rattle.labels.specs.Labels.{slot}
-use Rattle.labels.specs.Tournament.{SameLabels, SameUsed, SameLinks}
+use Rattle.labels.specs.Tournament.{SameLabels, SameUsed, SameLists}
 use Rattle.labels.proofs.Seeding.{NamesFirst}
 use Rattle.routing.proofs.tournament.Tournament.seed_nodes.Given as goal
 
@@ -12,5 +12,5 @@ invariant-loop-node g l =
       bests : (s : ℕ) → (slot K l.slots s).best ≡ (slot K l.initial.slots s).best;
       labels : SameLabels (slot K l.initial.slots) (slot K l.slots);
       used : SameUsed (slot K l.initial.slots) (slot K l.slots);
-      links : SameLinks (slot K l.initial.slots) (slot K l.slots);
+      links : SameLists (slot K l.initial.slots) (slot K l.slots);
     }

@@ -1,5 +1,5 @@
 use Rattle.labels.specs.Labels.{slot}
-use Rattle.labels.specs.Tournament.{SameLabels, SameLinks}
+use Rattle.labels.specs.Tournament.{SameLabels, SameLists}
 use Rattle.labels.proofs.Seeding.{Fresh}
 use Rattle.routing.proofs.tournament.Tournament.seed_sites.Given as goal
 
@@ -9,5 +9,5 @@ invariant-loop-site g l =
     record {
       fresh : Fresh (slot K l.slots) l.self.k l.site;
       labels : SameLabels (slot K l.initial.slots) (slot K l.slots);
-      links : SameLinks (slot K l.initial.slots) (slot K l.slots);
+      links : SameLists (slot K l.initial.slots) (slot K l.slots);
     }
