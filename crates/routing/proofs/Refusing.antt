@@ -9,6 +9,7 @@ use Rattle.catalogue.specs.declared.routes.Ask.{Ask}
 use Rattle.catalogue.specs.declared.routes.Route.{Route}
 use Rattle.labels.specs.declared.Slot.{Slot}
 use Rattle.labels.specs.Labels.{table, Frees}
+use Rattle.labels.specs.Workspaces.{AllFree}
 use Rattle.routing.specs.Finds.{Admits}
 use Rattle.routing.specs.Searching.{route_causes, Answered, Searched}
 
@@ -58,3 +59,14 @@ module _ {V L : Type 0} (K : Kind V L) (sites : ℕ) (links : List (Option (Link
 
   pub searched_free : (labels' : List (Slot V)) (row' : List ℕ) (r : Result (Option (Route V)) Refusal) → topmost (route_causes K sites (length labels) k ask (length row)) ≡ None → Searched K sites links k ask labels labels' row row' r → Frees (table K labels') (length labels') × Answered K links k ask row row' r
   searched_free labels' row' r e h = subst (Outcome labels' row' r) e h
+
+  -- how a call ends, refused or not
+  pub done : (labels' : List (Slot V)) (row' : List ℕ) (r : Result (Option (Route V)) Refusal) → ◌≡◌ {A = Result (Unit {0}) Refusal} (Ok tt) (unless (topmost (route_causes K sites (length labels) k ask (length row))) (Ok tt)) →
+      AllFree K labels' → Answered K links k ask row row' r → Searched K sites links k ask labels labels' row row' r
+  done labels' row' r e free answered = searched_so labels' row' r (unrefused tt _ e) free answered
+
+-- what a call that is not refused knows of its arguments
+pub admitted : {V L : Type 0} {K : Kind V L} {sites room k : ℕ} {ask : Ask L} {row : ℕ} → ◌≡◌ {A = Result (Unit {0}) Refusal} (Ok tt) (unless (topmost (route_causes K sites room k ask row)) (Ok tt)) → Admits K sites room k ask row
+admitted {K = K} {sites} {room} {k} {ask} {row} e = admits K sites room k ask row (unrefused tt _ e)
+
+pub ruleset ends = (searched_refused, done, admitted)

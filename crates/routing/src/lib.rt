@@ -141,24 +141,9 @@ fn find<M: Measure, N: Links<M>>(
     answer
 }
 
-// Checks the call, and routes: the body of `find_route`, with answers of its own, so that an edit of `find_route` is refused in the code.
-fn find_checked<M: Measure, N: Links<M>>(
-    network: &N,
-    slots: &mut [Slot<M>],
-    k: usize,
-    ask: Ask<M::Limit>,
-    row: &mut [u16],
-) -> Result<Option<Route<M>>, Refusal>
-    requires { AllFree M.Measure.kind slots.old }
-    ensures searched { Searched M.Measure.kind (N.Links.span network.now) (N.Links.links network.now) k ask slots.old slots.new row.old row.new result }
-    ensures free { AllFree M.Measure.kind slots.new }
-{
-    check::<M>(network.sites(), slots.len(), k, ask, row.len())?;
-    find(network, slots, k, ask, row)
-}
-
 // Finds the walk of first rank from the source to the destination within the limit, with k labels a site, and writes its legs
 // to the row. The workspace is lent for this call alone.
+#[tactic(auto, using(crate::proofs::Refusing::ends))]
 pub fn find_route<M: Measure, N: Links<M>>(
     network: &N,
     workspace: &mut Workspace<'_, M>,
@@ -172,5 +157,6 @@ pub fn find_route<M: Measure, N: Links<M>>(
         (N.Links.span network.now) (length (labels_of workspace.old)) k ask (length row.old)) }
     ensures same { SameWorkspace workspace.old workspace.new }
 {
-    find_checked(network, workspace.slots, k, ask, row)
+    check::<M>(network.sites(), workspace.room(), k, ask, row.len())?;
+    find(network, workspace.slots, k, ask, row)
 }
