@@ -2,9 +2,8 @@
 use crate::checks::*;
 use crate::tables::Asked::*;
 use crate::tables::Step::{Calls, Links, Reply, Themselves};
-use crate::tables::Want::*;
+use crate::tables::Want::Refused;
 use crate::tables::{Three, Turn};
-use report::Mark::{Doubtful, Standing};
 use report::Refusal::*;
 use std::process::Abort;
 use std::test::Fail;
@@ -33,20 +32,8 @@ fn sizes_of((sites, places, cards, book): Made) -> Sizes {
     }
 }
 
-// The calls answer what stands beside them, by way of all calls and then each by its own function, and leave no link, the reply as it was,
-// and these row numbers, if any are given.
-fn check_made(
-    rt: &(impl Abort + Alloc),
-    turns: &[Turn<Three>],
-    sizes: Sizes,
-    rows: Option<&[u16]>,
-) -> Result<(), Fail> {
-    let steps = [Calls(turns), Themselves(turns), Links(&[]), Reply(&[9; 4])];
-    check_trunk_day(rt, sizes, &steps, rows)?;
-    Ok(())
-}
-
-// The same in a day of each of these sizes, and the rows are left as they were.
+// In a day of each of these sizes the calls answer what stands beside them, by way of all calls and then each by its own function, and leave
+// no link, and the reply and the rows as they were.
 fn check_all_made(
     rt: &(impl Abort + Alloc),
     turns: &[Turn<Three>],
@@ -55,7 +42,8 @@ fn check_all_made(
     for &it in made {
         let sizes = sizes_of(it);
         let rows = filled(rt, 7, row_numbers(sizes))?;
-        check_made(rt, turns, sizes, Some(&rows))?;
+        let steps = [Calls(turns), Themselves(turns), Links(&[]), Reply(&[9; 4])];
+        check_trunk_day(rt, sizes, &steps, Some(&rows))?;
     }
     Ok(())
 }
@@ -85,13 +73,14 @@ const NO_SITES: [Turn<Three>; 21] = [
     (Read(257, 0), Refused(NoSuchCard)),
 ];
 
-// The catalogue is of a size that is refused. So is the quote book, by one number or by many, or it was made for no sites.
-const NEITHER_HAS_SITES: [Made; 10] = [
+// The catalogue is of a size that is refused. So is the quote book, by one number, by many or by its cards alone, or it was made for no sites.
+const NEITHER_HAS_SITES: [Made; 11] = [
     (257, 4, 2, (257, 513)),
     (257, 4, 2, (257, 515)),
     (257, 4, 2, (0, 0)),
     (257, 4097, 2, (257, 513)),
     (257, 4, 257, (257, 66048)),
+    (257, 4097, 257, (257, 66049)),
     (0, 4, 2, (0, 0)),
     (0, 4, 2, (4, 7)),
     (0, 4, 2, (4, 9)),
@@ -138,11 +127,10 @@ const SITES_APART: [Turn<Three>; 14] = [
     (Read(257, 0), Refused(NoSuchCard)),
 ];
 
-// The catalogue has no sites in the first seven, and the quote book none in the last four.
+// The catalogue has no sites in the first six, and the quote book none in the last five.
 const ONE_HAS_SITES: [Made; 11] = [
     (257, 4, 2, (257, 514)),
     (257, 4, 2, (256, 512)),
-    (257, 4097, 257, (257, 66049)),
     (0, 4, 2, (4, 8)),
     (0, 4, 2, (1, 2)),
     (4, 4097, 2, (4, 8)),
@@ -150,6 +138,7 @@ const ONE_HAS_SITES: [Made; 11] = [
     (4, 4, 2, (4, 7)),
     (4, 4, 2, (4, 9)),
     (4, 4, 257, (4, 1027)),
+    (4, 4, 257, (4, 1028)),
     (4, 4, 257, (4, 1029)),
 ];
 
@@ -158,26 +147,23 @@ fn one_has_sites(rt: HostRuntime) -> Result<(), Fail> {
     check_all_made(&rt, &SITES_APART, &ONE_HAS_SITES)
 }
 
-// With no card places, links come and go and no card falls into doubt.
-const NO_CARDS: [Turn<Three>; 10] = [
-    (Offer(0, 0, 3, VALUE), Counted(0)),
-    (Offer(0, 0, 3, VALUE), Refused(LinkTaken)),
-    (Quote(0, 0, 3, LIMIT, 1), Refused(NoSuchCard)),
-    (Quote(0, 4, 0, ZERO, 0), Refused(NoSuchCard)),
-    (Recheck(0, 1), Refused(NoSuchCard)),
-    (Read(0, 0), Refused(NoSuchCard)),
-    (Change(0, (4, 4, 1)), Counted(0)),
-    (Discard(0), Refused(NoSuchCard)),
-    (Withdraw(0), Counted(0)),
+// With no card places the quote book has no sites either: here the catalogue has none too.
+const NO_CARDS: [Turn<Three>; 7] = [
+    (Offer(0, 0, 3, VALUE), Refused(NoSuchSite)),
+    (Change(0, VALUE), Refused(LinkEmpty)),
     (Withdraw(0), Refused(LinkEmpty)),
+    (Quote(0, 0, 3, LIMIT, 1), Refused(NoSuchCard)),
+    (Recheck(0, 1), Refused(NoSuchCard)),
+    (Discard(0), Refused(NoSuchCard)),
+    (Read(0, 0), Refused(NoSuchCard)),
 ];
 
 #[test]
 fn no_card_places(rt: HostRuntime) -> Result<(), Fail> {
-    check_all_made(&rt, &NO_CARDS, &[(4, 4, 0, (4, 0))])
+    check_all_made(&rt, &NO_CARDS, &[(257, 4, 0, (257, 0)), (0, 4, 0, (4, 0))])
 }
 
-// With no card places, and another number of sites than the catalogue, or row numbers that are the rows of none.
+// With no card places, where the catalogue has sites.
 const NO_CARDS_APART: [Turn<Three>; 7] = [
     (Offer(0, 0, 256, VALUE), Refused(SitesDiffer)),
     (Change(0, VALUE), Refused(SitesDiffer)),
@@ -189,32 +175,10 @@ const NO_CARDS_APART: [Turn<Three>; 7] = [
 ];
 
 #[test]
-fn no_card_places_for_other_sites(rt: HostRuntime) -> Result<(), Fail> {
-    let made = [(257, 4, 0, (257, 0)), (0, 4, 0, (4, 0)), (4, 4, 0, (4, 1))];
-    check_all_made(&rt, &NO_CARDS_APART, &made)
-}
-
-// Card 256 is the last of 257, and what is answered is right: link 0 is the one from 0 to 3, and none leaves 3.
-const CARD_256: [Turn<Three>; 16] = [
-    (Offer(0, 0, 3, VALUE), Counted(0)),
-    (Quote(256, 0, 3, LIMIT, 1), Best(Standing, 1, VALUE, 5, 10)),
-    (Quote(255, 3, 0, LIMIT, 1), NoRoute(Standing)),
-    (Quote(257, 0, 3, LIMIT, 1), Refused(NoSuchCard)),
-    (Quote(256, 0, 3, LIMIT, 1), Refused(CardFilled)),
-    (Change(0, (4, 5, 1)), Counted(2)),
-    (Recheck(256, 1), Best(Standing, 1, (4, 5, 1), 5, 10)),
-    (Recheck(255, 1), NoRoute(Standing)),
-    (Withdraw(0), Counted(1)),
-    (Read(255, 4), NoRoute(Standing)),
-    (Recheck(256, 0), Refused(WorkspaceSize)),
-    (Recheck(256, 1), NoRoute(Standing)),
-    (Read(256, 4), NoRoute(Standing)),
-    (Discard(256), Counted(0)),
-    (Discard(255), Counted(0)),
-    (Read(256, 0), Refused(CardEmpty)),
-];
-
-#[test]
-fn a_card_place_too_many(rt: HostRuntime) -> Result<(), Fail> {
-    check_made(&rt, &CARD_256, sizes_of((4, 4, 257, (4, 1028))), None)
+fn no_card_places_beside_sites(rt: HostRuntime) -> Result<(), Fail> {
+    check_all_made(
+        &rt,
+        &NO_CARDS_APART,
+        &[(4, 4, 0, (4, 0)), (4, 4, 0, (4, 1))],
+    )
 }

@@ -7,7 +7,7 @@ use Rattle.report.specs.declared.Mark.{Mark}
 use Rattle.report.specs.declared.Refusal.{Refusal}
 use Rattle.records.specs.declared.Record.{Record}
 use Rattle.records.specs.declared.Record.TheVariants as RecordVariants
-use Rattle.routing.specs.declared.Route.{Route}
+use Rattle.catalogue.specs.declared.routes.Route.{Route}
 use Rattle.cards.specs.declared.Answer.TheVariants.{Held}
 use Rattle.cards.specs.declared.Call.{Call}
 use Rattle.cards.specs.declared.Call.TheVariants.{Read}
