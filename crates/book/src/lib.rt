@@ -3,7 +3,6 @@
 
 ghost use Rattle.std.specs.Prelude.{◌≡◌, ◌+◌, ◌*◌, ◌<◌, ◌≤◌, [], length, take, None, slice_set};
 ghost use Rattle.std.proofs.Math.Seq.{paste};
-ghost use Rattle.catalogue.specs.Places.{at};
 ghost use Rattle.cards.specs.Books.{book_size_answer, opened_book, row_at};
 ghost use Rattle.cards.specs.Doubts.{uses};
 ghost use Rattle.catalogue.specs.Asks.{row_with};

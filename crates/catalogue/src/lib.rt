@@ -93,7 +93,8 @@ pub fn read_place<T: Copy>(places: &[Option<T>], place: usize) -> Option<T>
     places.get(place).copied().flatten()
 }
 
-// The three below are what the methods pass their lent slice on to. They look the place up before they write, as `get_mut` says nothing of what a write through it leaves in the slice.
+// The three below are what the methods pass their lent slice on to. They look the place up before they write, as `get_mut` says nothing of
+// what a write through it leaves in the slice.
 fn store_at<M: Measure>(
     links: &mut [Option<Link<M>>],
     sites: usize,
@@ -150,7 +151,8 @@ fn remove_at<M: Measure>(links: &mut [Option<Link<M>>], place: usize) -> Result<
 impl<'a, M: Measure> Catalogue<'a, M> {
     ghost use Rattle.catalogue.specs.Keeping.{sites_of, links_of, links_lent};
 
-    // Empties every place. The size is for `check_size` to refuse beforehand; this cannot refuse, and of a size that is refused there are no sites.
+    // Empties every place. The size is for `check_size` to refuse beforehand; this cannot refuse, and of a size that is refused there are no
+    // sites.
     pub fn open(links: &'a mut [Option<Link<M>>], sites: usize) -> Catalogue<'a, M>
         ensures links { links_of result ≡ replicate (length links.old) None }
         ensures sites { sites_of result ≡ opened_sites sites (length links.old) }

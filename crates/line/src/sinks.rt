@@ -1,5 +1,5 @@
 //! What a line is put into, part after part: one sink counts the bytes, and one writes them.
-ghost use Rattle.std.specs.Prelude.{◌≡◌, ℕ, List, [], ◌++◌};
+ghost use Rattle.std.specs.Prelude.{ℕ, List, [], ◌++◌};
 ghost use Rattle.line.specs.Sinks.{Counted, Written, counted_none, counted_both, written_none, written_both};
 
 // A sink takes all that is put into it. std's `fmt::Write` may fail, and its contract leaves open when a `write!` does,

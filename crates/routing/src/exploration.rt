@@ -1,14 +1,10 @@
 //! One exploration of a network: from the source on, walk by walk in the order of their ranks, until the destination is reached.
-ghost use Rattle.std.specs.Prelude.{◌≡◌, ℕ, ◌+◌, ◌*◌, ◌<◌, ◌≤◌, true, false, length, reverse, take, MatchOption, MatchResult};
-ghost use Rattle.std.proofs.Props.{props};
-ghost use Rattle.measure.specs.Ranks.{Fit};
+ghost use Rattle.std.specs.Prelude.{◌≡◌, ◌+◌, ◌*◌, ◌<◌, ◌≤◌, length, reverse, take, MatchOption, MatchResult};
 ghost use Rattle.catalogue.specs.Walks.{Holds, Walk, Simple};
-ghost use Rattle.catalogue.specs.Routes.{Sound};
-ghost use Rattle.labels.specs.Labels.{is_held, is_queued, slot, table, In, Held, Waits, Settles, Adds, Swept, Steady, Offered, OffersNone, Opens, Rests, Wins, Fits, Frees, Starts};
+ghost use Rattle.labels.specs.Labels.{slot, table, Steady, Offered, OffersNone, Opens, Rests, Wins, Frees};
 ghost use Rattle.labels.specs.Outgoing.{Listed};
-ghost use Rattle.labels.specs.Tournament.{Unused, Noted, SameUsed, SameLists};
+ghost use Rattle.labels.specs.Tournament.{Unused};
 ghost use Rattle.routing.specs.Finds.{IsFull, EndsSo, WroteLegs, Indexed};
-ghost use Rattle.report.specs.declared.Refusal.TheVariants.{LabelsFull};
 
 use crate::outgoing::{first_link, link_after};
 use crate::tournament::Tournament;
@@ -26,7 +22,6 @@ pub(crate) struct Exploration<'a, M: Measure, N: Links<M>> {
     pub source: usize,
     pub destination: usize,
     pub tournament: Tournament<M>,
-    ghost sound: { Sound M.Measure.kind (N.Links.span network.now) (N.Links.links network.now) } by { Prim.hlevel props },
     ghost spans: { tournament.sites ≡ N.Links.span network.now },
     ghost source_in: { source < N.Links.span network.now },
     ghost destination_in: { destination < N.Links.span network.now },

@@ -5,7 +5,7 @@ ghost use Rattle.std.specs.Prelude.{◌≡◌, ◌*◌, ◌≤◌, length, Ok};
 ghost use Rattle.labels.specs.Outgoing.{Listed};
 ghost use Rattle.labels.specs.Tournament.{Unused};
 ghost use Rattle.report.specs.Refusals.{topmost, unless, InOrder};
-ghost use Rattle.labels.specs.Labels.{blank_slot, table, Frees, slot};
+ghost use Rattle.labels.specs.Labels.{blank_slot, table, slot};
 ghost use Rattle.routing.specs.Finds.{Admits};
 ghost use Rattle.routing.specs.Lent.{labels_of, SameWorkspace};
 ghost use Rattle.labels.specs.Workspaces.{ill_sized, AllFree};

@@ -1,5 +1,5 @@
 //! What routing looks for among the labels of a site, and how it changes them.
-ghost use Rattle.std.specs.Prelude.{◌≡◌, ◌<◌, ◌≤◌, length, map, position};
+ghost use Rattle.std.specs.Prelude.{◌≡◌, ◌<◌, map, position};
 ghost use Rattle.std.specs.List.{list_any};
 ghost use Rattle.labels.specs.Labels.{is_free, yields, cleared, freed, covers};
 

@@ -22,7 +22,7 @@ returns-then-site-self-clause-ends g c =
     let self = c.args.self.now in
     let t = self.tournament in
     let lead = c.in-Some.ensures in
-    turn_wins g.met.M.Measure.lawful t.admitted self.sound c.loop-h.invariant.0 c.in-Some.h lead.waits (leads_all g.M.Measure.kind t.limit c.loop-h.slots c.in-Some.h lead)
+    turn_wins g.met.M.Measure.lawful t.admitted (g.met.N.Links.sound self.network.now) c.loop-h.invariant.0 c.in-Some.h lead.waits (leads_all g.M.Measure.kind t.limit c.loop-h.slots c.in-Some.h lead)
     (subst (λ (x : ℕ). In t.k x c.in-Some.h) c.if-site-self.true (site_of t.k c.in-Some.h t.some))
 
 pub settle-requires-clause-here : goal.settle-requires-clause-here
@@ -42,7 +42,7 @@ extend-requires-clause-opens g c =
     let self = c.args.self.now in
     let t = self.tournament in
     let lead = c.in-Some.ensures in
-    turn_settle g.met.M.Measure.lawful t.admitted self.sound c.loop-h.invariant.0 _ c.settle.ensures.settles lead.waits (leads_all g.M.Measure.kind t.limit c.loop-h.slots c.in-Some.h lead) (site_of t.k c.in-Some.h t.some) c.if-site-self.false
+    turn_settle g.met.M.Measure.lawful t.admitted (g.met.N.Links.sound self.network.now) c.loop-h.invariant.0 _ c.settle.ensures.settles lead.waits (leads_all g.M.Measure.kind t.limit c.loop-h.slots c.in-Some.h lead) (site_of t.k c.in-Some.h t.some) c.if-site-self.false
 
 pub extend-requires-clause-indexed : goal.extend-requires-clause-indexed
 extend-requires-clause-indexed g c =
@@ -62,4 +62,4 @@ pub returns-clause-ends : goal.returns-clause-ends
 returns-clause-ends g c =
     let self = c.args.self.now in
     let t = self.tournament in
-    turn_apart g.met.M.Measure.lawful t.admitted self.sound c.loop-h.invariant.0 (none_waits g.M.Measure.kind c.loop-h.slots c.in_default.ensures)
+    turn_apart g.met.M.Measure.lawful t.admitted (g.met.N.Links.sound self.network.now) c.loop-h.invariant.0 (none_waits g.M.Measure.kind c.loop-h.slots c.in_default.ensures)

@@ -39,7 +39,7 @@ unreachable-requires g c =
     let self = c.args.self.now in
     let long = legs_long c.loop-i.row c.loop-i.i (omega arith) in
     let inside = self.source_in in
-    let short = traced_short self.sound (reverse (take c.loop-i.i c.loop-i.row)) (omega (arith, c.requires.room)) c.loop-i.invariant in
+    let short = traced_short (g.met.N.Links.sound self.network.now) (reverse (take c.loop-i.i c.loop-i.row)) (omega (arith, c.requires.room)) c.loop-i.invariant in
     omega (arith, c.requires.room)
 
 pub offset_bounds-slots-q : goal.offset_bounds-slots-q
