@@ -1,5 +1,5 @@
-//! Writing a feed's records: the bytes of each kind, and putting them into a buffer. It is a crate of its own, so that an edit that is tried
-//! on writing does not prove reading too, nor the other way round.
+//! Writing a feed's records: the bytes of each kind, and putting them into a buffer. It is a crate of its own, since a program that reads a
+//! feed writes none.
 #![tactic(auto)]
 
 ghost use Rattle.std.specs.Prelude.{◌≡◌, ◌+◌, ◌∷◌, ◌++◌};

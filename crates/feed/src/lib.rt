@@ -249,22 +249,11 @@ pub fn read_record(input: &[u8], start: usize) -> (Reading, &[u8])
 }
 
 // The records of a feed in order: each begins where the one before it ends, and the refusal of what cannot be read is the last item.
+// The start place is kept beside the whole feed, since a refusal names its place there.
 #[derive(Drop)]
 pub struct Records<'a> {
     feed: &'a [u8],
     start: usize,
-}
-
-impl<'a> Records<'a> {
-    // Reads the record at the start place, and goes on to where it ends. `next` is this and no more, so that an edit of it is refused in the
-    // code; the start place is kept beside the feed, since a refusal names its place there.
-    fn read(&mut self) -> Option<Result<Record, Refusal>>
-        ensures { YieldsFirst unread self.old result self.new }
-    {
-        let (reading, rest) = read_record(self.feed, self.start);
-        self.start = self.feed.len() - rest.len();
-        reading.transpose()
-    }
 }
 
 impl<'a> Iterator for Records<'a> {
@@ -274,8 +263,11 @@ impl<'a> Iterator for Records<'a> {
 
     ghost remaining = { item_count unread };
 
+    #[tactic(auto, using(crate::proofs::Reading::nexts))]
     fn next(&mut self) -> Option<Result<Record, Refusal>> {
-        self.read()
+        let (reading, rest) = read_record(self.feed, self.start);
+        self.start = self.feed.len() - rest.len();
+        reading.transpose()
     }
 }
 
