@@ -54,7 +54,8 @@ fn long_bytes(kind: u8, first: u16, second: u16, third: u16, measures: Measures)
     join(numbers, measures_to_bytes(measures))
 }
 
-// Copies the bytes into the lent buffer from the caller's start place on, and returns the place after them; a buffer that is too short stays as it was.
+// Copies the bytes into the lent buffer from the caller's start place on, and returns the place after them; a buffer that is too short stays
+// as it was.
 pub fn put_bytes(bytes: &[u8], buffer: &mut [u8], start: usize) -> Result<usize, Refusal>
     ensures { Put bytes.now start buffer.old buffer.new result }
 {
@@ -67,7 +68,8 @@ pub fn put_bytes(bytes: &[u8], buffer: &mut [u8], start: usize) -> Result<usize,
     }
 }
 
-// Writes the record, kind by kind, from the place on: the byte of each kind stands in its arm. That its numbers fit their widths, as the types say, is what makes it read back.
+// Writes the record, kind by kind, from the place on: the byte of each kind stands in its arm. That its numbers fit their widths, as the
+// types say, is what makes it read back.
 fn put_record(record: Record, buffer: &mut [u8], place: usize) -> Result<usize, Refusal>
     ensures put { Put (encode «record») place buffer.old buffer.new result }
     ensures fit { Fit «record» }

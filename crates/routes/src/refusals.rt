@@ -1,8 +1,8 @@
 //! Routes that are refused before routing begins, for the first cause in order, and the row left as it was.
 use crate::checks::*;
+use catalogue::Route;
 use measure::Measure;
 use report::Refusal;
-use catalogue::Route;
 use std::process::Abort;
 use std::test::Fail;
 

@@ -19,8 +19,8 @@ same_again p q = record {
   book = q.book ∙ p.book;
   links = q.links ∙ p.links;
   places = (q.places.0 ∙ p.places.0, q.places.1 ∙ p.places.1);
-  labels = q.labels ∙ p.labels;
-  slots = record { same = q.slots.same ∙ p.slots.same; room = q.slots.room ∙ p.slots.room };
+  workspace = q.workspace ∙ p.workspace;
+  labels = record { same = q.labels.same ∙ p.labels.same; room = q.labels.room ∙ p.labels.room };
   reply = q.reply ∙ p.reply;
   room = q.room ∙ p.room;
 }

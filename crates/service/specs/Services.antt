@@ -16,7 +16,7 @@ memory_in s = memory_of s.catalogue.now s.book.now
 
 -- what is lent to a call
 abbrev pub lent_by : Service → Lent TrunkValue
-lent_by s = lent (labels_of s.labels.now) s.reply.now
+lent_by s = lent (labels_of s.workspace.now) s.reply.now
 
 -- How much is lent to each call: how many labels a site, and how many labels and numbers in all.
 pub record Room : Type 0 where
@@ -35,7 +35,7 @@ pub record Lends (room : Room) (l : Lent TrunkValue) : Type 0 where
 
 -- how much a service lends to each call
 abbrev pub room_in : Service → Room
-room_in s = room_of s.k (labels_of s.labels.now) s.reply.now
+room_in s = room_of s.k (labels_of s.workspace.now) s.reply.now
 
 -- a call of a service had this full outcome
 abbrev pub Performed : Service → Call TrunkValue TrunkLimits → Reply TrunkValue → Service → Type 0
@@ -47,7 +47,7 @@ pub record SameService (s s' : Service) : Type 0 where
   pub book : s'.book.ghost_name ≡ s.book.ghost_name
   pub links : SameLinks s.catalogue.now s'.catalogue.now
   pub places : SamePlaces s.book.now s'.book.now
-  pub labels : s'.labels.ghost_name ≡ s.labels.ghost_name
-  pub slots : SameWorkspace s.labels.now s'.labels.now
+  pub workspace : s'.workspace.ghost_name ≡ s.workspace.ghost_name
+  pub labels : SameWorkspace s.workspace.now s'.workspace.now
   pub reply : s'.reply.ghost_name ≡ s.reply.ghost_name
   pub room : room_in s' ≡ room_in s

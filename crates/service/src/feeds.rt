@@ -46,7 +46,8 @@ impl Service<'_, '_> {
         number: usize,
         record: Record,
     ) -> io::Result<()>
-        ensures printed { PrintsRecord (memory_in self.old) (lent_by self.old) number «record» self.old.k (W.Write.contents out.old) (W.Write.contents out.new) (memory_in self.new) (lent_by self.new) result }
+        ensures printed { PrintsRecord (memory_in self.old) (lent_by self.old) number «record» self.old.k
+            (W.Write.contents out.old) (W.Write.contents out.new) (memory_in self.new) (lent_by self.new) result }
         ensures same { SameService self.old self.new }
     {
         let reply = self.serve(record);
@@ -56,7 +57,8 @@ impl Service<'_, '_> {
 
     // Serves the feed's records in order, and writes a line for each, up to the first that cannot be read.
     pub fn serve_feed<W: Write>(&mut self, out: &mut W, feed: &[u8]) -> io::Result<()>
-        ensures printed { PrintsFeed feed.now (room_in self.old) (memory_in self.old) (W.Write.contents out.old) (W.Write.contents out.new) (memory_in self.new) result }
+        ensures printed { PrintsFeed feed.now (room_in self.old) (memory_in self.old)
+            (W.Write.contents out.old) (W.Write.contents out.new) (memory_in self.new) result }
         ensures same { SameService self.old self.new }
     {
         for (number, reading) in numbered(feed) {

@@ -53,7 +53,8 @@ pub fn read_input<R: Read>(input: &mut R, buffer: &mut [u8]) -> io::Result<usize
 // Opens a catalogue of sixteen sites and thirty-two link places and a quote book of eight cards, reads up to 65,536 bytes of input as a
 // feed, and writes a line for each record, with eight labels a site. It fails only where the reader or the writer does.
 pub fn serve_input<R: Read, W: Write>(input: &mut R, out: &mut W) -> io::Result<()>
-    ensures { IfOk result (λ _. PrintsInput small (R.Read.remaining input.old) (R.Read.remaining input.new) (W.Write.contents out.old) (W.Write.contents out.new)) }
+    ensures { IfOk result (λ _. PrintsInput small
+        (R.Read.remaining input.old) (R.Read.remaining input.new) (W.Write.contents out.old) (W.Write.contents out.new)) }
 {
     let mut buffer = [0u8; INPUT];
     let mut links = [None; PLACES];

@@ -50,7 +50,8 @@ pub fn serve_large_input<R: Read, W: Write>(
     input: &mut R,
     out: &mut W,
 ) -> Result<(), ServiceError>
-    ensures printed { IfOk result (λ _. PrintsInput large (R.Read.remaining input.old) (R.Read.remaining input.new) (W.Write.contents out.old) (W.Write.contents out.new)) }
+    ensures printed { IfOk result (λ _. PrintsInput large
+        (R.Read.remaining input.old) (R.Read.remaining input.new) (W.Write.contents out.old) (W.Write.contents out.new)) }
     ensures unread { result ≡ Err ServiceErrors.OutOfMemory → R.Read.remaining input.new ≡ R.Read.remaining input.old }
     ensures unwritten { result ≡ Err ServiceErrors.OutOfMemory → W.Write.contents out.new ≡ W.Write.contents out.old }
 {

@@ -12,12 +12,12 @@ use quotes::{QuoteBook, perform};
 use records::Record;
 use routing::Workspace;
 
-// A catalogue and its quote book, and what is lent to each of their calls: labels, k of them a site, and numbers for a route's legs.
+// A catalogue and its quote book, and what is lent to each of their calls: a workspace of k labels a site, and numbers for a route's legs.
 #[derive(Drop)]
 pub struct Service<'s, 'm> {
     pub catalogue: &'s mut Catalogue<'m, Trunk>,
     pub book: &'s mut QuoteBook<'m, Trunk>,
-    pub labels: &'s mut Workspace<'m, Trunk>,
+    pub workspace: &'s mut Workspace<'m, Trunk>,
     pub k: usize,
     pub reply: &'s mut [u16],
 }
@@ -28,13 +28,14 @@ impl Service<'_, '_> {
         ensures outcome { Performed self.old call result self.new }
         ensures same { SameService self.old self.new }
     {
-        perform(self.catalogue, self.book, self.labels, self.reply, call)
+        perform(self.catalogue, self.book, self.workspace, self.reply, call)
     }
 
     // Carries out the record's call. What is answered of a card is what a reading of it gives, so that its legs stand in the reply.
     #[tactic(auto, using(crate::proofs::Reading::ends))]
     pub fn serve(&mut self, record: Record) -> Reply<Trunk>
-        ensures served { Served (memory_in self.old) (lent_by self.old) «record» self.old.k result (memory_in self.new) (lent_by self.new) }
+        ensures served { Served (memory_in self.old) (lent_by self.old) «record» self.old.k
+            result (memory_in self.new) (lent_by self.new) }
         ensures legible { Legible result self.new.reply.now }
         ensures same { SameService self.old self.new }
     {

@@ -42,18 +42,19 @@ pub struct Storage<'m> {
 fn serve_day<'s, 'm, W: Write>(
     catalogue: &'s mut Catalogue<'m, Trunk>,
     book: &'s mut QuoteBook<'m, Trunk>,
-    labels: &'s mut Workspace<'m, Trunk>,
+    workspace: &'s mut Workspace<'m, Trunk>,
     k: usize,
     reply: &'s mut [u16],
     out: &mut W,
     feed: &[u8],
 ) -> io::Result<()>
-    ensures { IfOk result (λ _. PrintsDay feed.now (room_of k (labels_of labels.old) reply.old) (memory_of catalogue.old book.old) (W.Write.contents out.old) (W.Write.contents out.new)) }
+    ensures { IfOk result (λ _. PrintsDay feed.now (room_of k (labels_of workspace.old) reply.old)
+        (memory_of catalogue.old book.old) (W.Write.contents out.old) (W.Write.contents out.new)) }
 {
     let mut service = Service {
         catalogue,
         book,
-        labels,
+        workspace,
         k,
         reply,
     };
@@ -70,7 +71,8 @@ impl Storage<'_> {
         out: &mut W,
     ) -> io::Result<()>
         requires { LentFor sizes self.old }
-        ensures { IfOk result (λ _. PrintsInput sizes (R.Read.remaining input.old) (R.Read.remaining input.new) (W.Write.contents out.old) (W.Write.contents out.new)) }
+        ensures { IfOk result (λ _. PrintsInput sizes
+            (R.Read.remaining input.old) (R.Read.remaining input.new) (W.Write.contents out.old) (W.Write.contents out.new)) }
     {
         // Each slice is taken into a variable first: a loan of one in its field would stand in the way of the others.
         let (links, cards, rows) = (&mut *self.links, &mut *self.cards, &mut *self.rows);

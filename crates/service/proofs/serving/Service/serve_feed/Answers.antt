@@ -13,7 +13,7 @@ loop-number-init g c =
     let first : (zip_first c.into_iter-number-iterator.result).start ≡ 1 = cc in
     let records : unread (zip_second c.into_iter-number-iterator.result) ≡ unread (zip_second c.numbered-number-items.result) = cc in
     record {
-      same = record { catalogue = refl; book = refl; links = refl; places = (refl, refl); labels = refl; slots = record { same = refl; room = refl }; reply = refl; room = refl };
+      same = record { catalogue = refl; book = refl; links = refl; places = (refl, refl); workspace = refl; labels = record { same = refl; room = refl }; reply = refl; room = refl };
       within = omega (arith, ap length records);
       served = (0, 0, [], first, cc, none_served, Appends-nil (g.W.Write.contents c.args.out.now));
     }
