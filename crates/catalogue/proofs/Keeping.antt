@@ -1,13 +1,13 @@
 -- Each call leaves a sound catalogue sound.
-use Rattle.std.proofs.Common.{◌≡◌, ℕ, ◌<◌, Bool, true, false, cond, ◌⊎◌, List, [], ◌∷◌, length, set, is_some, Some, None, Ok, Err, Option, Result, sym, refl, ap, ◌∙◌, subst, inl, inr, ⊎_elim, length-set, get_or-set_other, get_or-set_same}
-use Rattle.std.proofs.lemmas.Bool.{both_ways, cases_eq, or_parts, leb-false, not-false, eqb-false}
+use Rattle.std.proofs.Common.{◌≡◌, ℕ, ◌+◌, ◌<◌, ◌≤◌, arith, Bool, true, false, cond, ◌⊎◌, List, [], ◌∷◌, length, set, replicate, zero, suc, is_some, Some, None, Ok, Err, Option, Result, sym, refl, ap, ◌∙◌, subst, inl, inr, ⊎_elim, length-set, get_or-set_other, get_or-set_same}
+use Rattle.std.proofs.lemmas.Bool.{both_ways, cases_eq, cases_lt, or_parts, leb-false, not-false, eqb-false}
 use Rattle.measure.specs.Kind.{Kind}
 use Rattle.report.specs.declared.Refusal.{Refusal}
 use Rattle.report.specs.declared.Refusal.TheVariants.{LinkEmpty}
 use Rattle.report.specs.Refusals.{topmost, unless, filled_or}
 use Rattle.report.proofs.Clearing.{some_same, none_some, cleared}
 use Rattle.catalogue.specs.declared.Link.{Link}
-use Rattle.catalogue.specs.Places.{at}
+use Rattle.catalogue.specs.Places.{at, EmptyFrom}
 use Rattle.catalogue.specs.Walks.{Holds}
 use Rattle.catalogue.specs.Calls.{store_causes, stored, replace_causes, replaced, revalued, remove_causes, removed}
 use Rattle.catalogue.specs.Routes.{Sound, SoundLink}
@@ -86,3 +86,51 @@ module _ {V L : Type 0} {K : Kind V L} {sites : ℕ} {links after : List (Option
 
   pub removes : after ≡ removed links place → Sound K sites after
   removes e = subst (Sound K sites) (sym e) (sound_removed K sites links place sound)
+
+-- No link stands at the place n or after it: so it is after each call, where n is past the place of a link that was stored.
+module _ {V : Type 0} {links : List (Option (Link V))} {n : ℕ} (rest : EmptyFrom links n) (place : ℕ) where
+  empty_set : (y : Option (Link V)) (m : ℕ) → n ≤ m → place < length links → (is_some y ≡ true → place < m) → EmptyFrom (set links place y) m
+  empty_set y m more lt inside = record {
+    none = λ p le. ⊎_elim
+        (λ e. ap (λ x. is_some (at (set links place y) x)) e ∙ ap is_some (get_or-set_same links place y None lt) ∙ not_here p le y inside e)
+        (λ ne. ap is_some (get_or-set_other links place p y None ne) ∙ rest.none p (omega arith))
+        (cases_eq p place);
+  }
+    where
+      not_here : (p : ℕ) → m ≤ p → (y : Option (Link V)) → (is_some y ≡ true → place < m) → p ≡ place → is_some y ≡ false
+      not_here p le None inside e = refl
+      not_here p le (Some link) inside e = let lt = inside refl in absurd (omega arith)
+
+  empty_still : (m : ℕ) → n ≤ m → EmptyFrom links m
+  empty_still m more = record { none = λ p le. rest.none p (omega arith) }
+
+  pub empty_stored : {L : Type 0} {after : List (Option (Link V))} (K : Kind V L) (sites : ℕ) (link : Link V) (m : ℕ) → after ≡ stored K sites links place link → n ≤ m → place < m → EmptyFrom after m
+  empty_stored K sites link m e more past = subst (λ xs. EmptyFrom xs m) (sym e)
+      (either (λ xs. EmptyFrom xs m) (λ (_ : Unit {0}). set links place (Some link)) links (topmost (store_causes K sites links place link)) (Ok tt) (empty_still m more)
+      (λ free a is. empty_set (Some link) m more (leb-false _ _ (cleared (store_causes K sites links place link) free).0) (λ _. past)))
+
+  pub empty_replaced : {L : Type 0} {after : List (Option (Link V))} (K : Kind V L) (value : V) → after ≡ replaced K links place value → EmptyFrom after n
+  empty_replaced K value e = subst (λ xs. EmptyFrom xs n) (sym e)
+      (either (λ xs. EmptyFrom xs n) (λ (old : Link V). set links place (Some (revalued old value))) links (topmost (replace_causes K links place value)) (filled_or LinkEmpty (at links place)) rest
+      (λ free old is.
+      let no = cleared (replace_causes K links place value) free in
+      empty_set (Some (revalued old value)) n (omega arith) (leb-false _ _ no.0) (λ _. there old (filled_some LinkEmpty (at links place) old is))))
+    where
+      there : (old : Link V) → at links place ≡ Some old → place < n
+      there old here = ⊎_elim (λ lt. lt) (λ le. absurd (both_ways (is_some (at links place)) (rest.none place le) (ap is_some here))) (cases_lt place n)
+
+  pub empty_removed : {after : List (Option (Link V))} → after ≡ removed links place → EmptyFrom after n
+  empty_removed e = subst (λ xs. EmptyFrom xs n) (sym e)
+      (either (λ xs. EmptyFrom xs n) (λ (old : Link V). set links place None) links (topmost (remove_causes links place)) (filled_or LinkEmpty (at links place)) rest
+      (λ free old is. empty_set None n (omega arith) (leb-false _ _ (cleared (remove_causes links place) free).0) (λ some. absurd (both_ways false refl some))))
+
+-- at an empty place, in a catalogue just opened
+none_there : (A : Type 0) (n p : ℕ) → is_some (at {A = A} (replicate n None) p) ≡ false
+none_there A zero p = refl
+none_there A (suc n) zero = refl
+none_there A (suc n) (suc p) = none_there A n p
+
+pub empty_opened : {A : Type 0} {places : List (Option A)} (n : ℕ) → places ≡ replicate n None → EmptyFrom places 0
+empty_opened {A} n is = record { none = λ p le. ap (λ xs. is_some (at xs p)) is ∙ none_there A n p }
+
+pub ruleset storing = (stores, empty_stored)

@@ -3,7 +3,7 @@
 
 ghost use Rattle.std.specs.Prelude.{◌≡◌, ◌<◌, ◌≤◌, ℕ, List, length, replicate, None, Option as Maybe};
 ghost use Rattle.catalogue.specs.declared.Link.{Link as Edge};
-ghost use Rattle.catalogue.specs.Places.{at};
+ghost use Rattle.catalogue.specs.Places.{at, EmptyFrom};
 ghost use Rattle.catalogue.specs.Calls.{size_answer, opened_sites, store_answer, stored, replace_answer, replaced, remove_answer, removed};
 ghost use Rattle.catalogue.specs.Routes.{Sound};
 ghost use Rattle.std.proofs.Props.{props};
@@ -38,6 +38,10 @@ pub trait Links<M: Measure> {
     fn sites(&self) -> usize
         ensures { result ≡ span self.now };
 
+    // How many places, from the first on, have to be looked at for links: later ones are empty. It is for speed alone.
+    fn used_places(&self) -> usize
+        ensures { EmptyFrom (links self.now) result };
+
     // The link at the place: none at an empty place, and none past the last.
     fn link(&self, place: usize) -> Option<Link<M>>
         ensures { result ≡ at (links self.now) place };
@@ -51,6 +55,9 @@ pub trait Links<M: Measure> {
 pub struct Catalogue<'a, M: Measure> {
     links: &'a mut [Option<Link<M>>],
     sites: usize,
+    // Links were only ever stored at places before this one.
+    used: usize,
+    ghost rest: { EmptyFrom links.now used } by { Prim.hlevel props },
     ghost sound: { Sound M.Measure.kind sites links.now } by { Prim.hlevel props },
 }
 
@@ -160,7 +167,11 @@ impl<'a, M: Measure> Catalogue<'a, M> {
     {
         let sites = opened_sites(sites, links.len());
         empty_all(links);
-        Catalogue { links, sites }
+        Catalogue {
+            links,
+            sites,
+            used: 0,
+        }
     }
 }
 
@@ -168,14 +179,15 @@ impl<M: Measure> Catalogue<'_, M> {
     ghost use Rattle.catalogue.specs.Keeping.{sites_of, links_of, Keeps};
 
     // Puts the link at an empty place.
-    #[tactic(auto, using(crate::proofs::Keeping::stores))]
+    #[tactic(auto, using(crate::proofs::Keeping::storing))]
     pub fn store(&mut self, place: usize, link: Link<M>) -> Result<(), Refusal>
         ensures answer { result ≡ store_answer M.Measure.kind (sites_of self.old) (links_of self.old) place link }
         ensures links { links_of self.new ≡ stored M.Measure.kind (sites_of self.old) (links_of self.old) place link }
         ensures keeps { Keeps self.old self.new }
     {
-        let sites = self.sites;
-        store_at(self.links, sites, place, link)
+        store_at(self.links, self.sites, place, link)?;
+        self.used = self.used.max(place + 1);
+        Ok(())
     }
 
     // Gives the link at the place another value, and answers the link as it was.
@@ -212,6 +224,10 @@ impl<M: Measure> Links<M> for Catalogue<'_, M> {
 
     fn sites(&self) -> usize {
         self.sites
+    }
+
+    fn used_places(&self) -> usize {
+        self.used
     }
 
     fn link(&self, place: usize) -> Option<Link<M>> {

@@ -1,10 +1,11 @@
 -- The lists of links grow by a place at a time, from the last place down to the first.
-use Rattle.std.proofs.Common.{◌≡◌, ℕ, ◌+◌, ◌-◌, ◌<◌, ◌≤◌, List, ◌++◌, length, get_or, take, drop, set, None, Option, refl, sym, ap, ◌∙◌, subst, ⊎_elim, arith}
+use Rattle.std.proofs.Common.{◌≡◌, ℕ, zero, suc, ◌+◌, ◌-◌, ◌<◌, ◌≤◌, min, is_some, List, ◌++◌, length, get_or, take, drop, set, None, Option, refl, sym, ap, ◌∙◌, subst, ⊎_elim, arith}
 use Rattle.std.proofs.lemmas.Bool.{cases_eq, cases_lt}
-use Rattle.std.proofs.lemmas.List.{get_or_default, get_or_append_left, get_or-append_right, get_or-take, get_or-drop, length-take-le}
+use Rattle.std.proofs.lemmas.List.{get_or_default, get_or_past, get_or_append_left, get_or-append_right, get_or-take, get_or-drop, length-take-le}
 use Rattle.measure.specs.Kind.{Kind}
 use Rattle.catalogue.specs.declared.Link.{Link}
-use Rattle.catalogue.specs.Places.{at}
+use Rattle.catalogue.specs.Places.{at, EmptyFrom}
+use Rattle.report.proofs.Clearing.{none_of}
 use Rattle.catalogue.specs.Walks.{Holds}
 use Rattle.catalogue.proofs.Walking.{holds_one}
 use Rattle.labels.specs.declared.Label.{Label}
@@ -76,6 +77,24 @@ module _ {V : Type 0} (links : List (Option (Link V))) where
           (λ ne. subst (FirstFrom links r (p + 1)) (sym (nexts p ne)) (listed.nexts p r u d (omega arith) lr k))
           (cases_eq p i);
     }
+
+-- past the last place nothing stands
+empty_past : {V : Type 0} (links : List (Option (Link V))) (e : ℕ) → EmptyFrom links e → EmptyFrom links (min e (length links))
+empty_past links e rest = record {
+  none = λ p le. ⊎_elim (λ lt. rest.none p (omega arith)) (λ ge. ap is_some (get_or_past links p None ge)) (cases_lt p (length links));
+}
+
+-- Where nothing stands from the place e on, the lists from there on are those from any later place on.
+module _ {V : Type 0} (links : List (Option (Link V))) (W : ℕ → Slot V) (n : ℕ) where
+  listed_down : (e : ℕ) → EmptyFrom links e → (k : ℕ) → Listed links W n (e + k) → Listed links W n e
+  listed_down e rest zero listed = subst (Listed links W n) (omega arith) listed
+  listed_down e rest (suc k) listed =
+      listed_down e rest k (listed_empty links W n (e + k) (subst (Listed links W n) (omega arith) listed) (none_of (at links (e + k)) (rest.none (e + k) (omega arith))))
+
+  pub listed_used : (e : ℕ) → EmptyFrom links e → Listed links W n (length links) → Listed links W n (min e (length links))
+  listed_used e rest listed =
+      let m = min e (length links) in
+      listed_down m (empty_past links e rest) (length links - m) (subst (Listed links W n) (omega arith) listed)
 
 -- the place with another first link noted for its site
 abbrev pub with_first : {V : Type 0} → Slot V → ℕ → Slot V

@@ -48,7 +48,7 @@ fn list_link<M: Measure, N: Links<M>>(network: &N, slots: &mut [Slot<M>], place:
     }
 }
 
-// Lists the links, the last first, so that each list goes up.
+// Lists the links, the last first, so that each list goes up. Only places that were ever used are looked at.
 // Where the network has more places than there are slots, some link would have no slot for its note, and there are no lists.
 pub(crate) fn list_links<M: Measure, N: Links<M>>(network: &N, slots: &mut [Slot<M>])
     requires room { N.Links.span network.now ≤ length slots.old }
@@ -62,7 +62,8 @@ pub(crate) fn list_links<M: Measure, N: Links<M>>(network: &N, slots: &mut [Slot
         return;
     }
     clear_firsts(&mut slots[..sites], places as u16);
-    for place in (0..places).rev() {
+    let used = network.used_places().min(places);
+    for place in (0..used).rev() {
         list_link(network, slots, place);
     }
 }

@@ -2,7 +2,7 @@ use Rattle.std.proofs.Common.{◌≡◌, ◌≤◌, ◌++◌, length, take, drop
 use Rattle.std.proofs.lemmas.List.{length-take-le}
 use Rattle.labels.specs.Labels.{slot}
 use Rattle.labels.specs.Outgoing.{Listed}
-use Rattle.labels.proofs.Outgoing.{listed_none, front_at, front_labels}
+use Rattle.labels.proofs.Outgoing.{listed_none, listed_used, front_at, front_labels}
 use Rattle.routing.proofs.outgoing.list_links.Goals as goal
 
 pub loop-place-init : goal.loop-place-init
@@ -17,8 +17,10 @@ loop-place-init g c =
     let long = c.clear_firsts.auto.slots in
     let few : n ≤ length (take n xs) = omega (arith, length-take-le n xs room) in
     let W = slot K (c.clear_firsts.new.slots ++ drop n xs) in
+    let all : Listed links W span (length links) =
+    listed_none links W span (λ s lt. ap (λ y. y.first) (front_at K xs c.clear_firsts.new.slots n room long s (omega (arith, c.sites-sites.ensures))) ∙ after.firsts s (omega (arith, c.sites-sites.ensures)) ∙ c.places-places.ensures) in
     record {
-      listed = subst (Listed links W span) (sym c.places-places.ensures) (listed_none links W span (λ s lt. ap (λ y. y.first) (front_at K xs c.clear_firsts.new.slots n room long s (omega (arith, c.sites-sites.ensures))) ∙ after.firsts s (omega (arith, c.sites-sites.ensures)) ∙ c.places-places.ensures));
+      listed = subst (Listed links W span) (omega (arith, c.places-places.ensures)) (listed_used links W span c.used_places.result c.used_places.ensures all);
       labels = front_labels K xs c.clear_firsts.new.slots n room long after.labels;
     }
 
