@@ -20,7 +20,7 @@ book_of q = record { width = q.sites; cards = q.cards.now; rows = q.rows.now }
 abbrev pub memory_of : {V L : Type 0} {g h : _} → Catalogue V L g → QuoteBook V L h → Memory V L
 memory_of c q = memory (network_of c) (book_of q)
 
--- The next three are of clauses of their own, beside the outcome of each call that is lent a store: the outcome speaks of what stores hold,
+-- The next three serve clauses of their own, beside the outcome of each call that is lent a store: the outcome speaks of what stores hold,
 -- and these of whose memory holds it, by which the caller reads the lent places afterwards.
 
 -- the memory that was lent for the card places, by the name of the borrow

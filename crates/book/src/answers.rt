@@ -64,7 +64,9 @@ fn check_recheck<M: Measure>(
     card: usize,
     k: usize,
 ) -> Result<Card<M, M::Limit>, Refusal>
-    ensures { result ≡ unless (topmost (drop 1 (recheck_causes (network_of catalogue.now) (book_of book.now) room card k))) (filled_or CardEmpty (at book.now.cards.now card)) }
+    ensures { result ≡ unless
+        (topmost (drop 1 (recheck_causes (network_of catalogue.now) (book_of book.now) room card k)))
+        (filled_or CardEmpty (at book.now.cards.now card)) }
 {
     let it = filled(book, card)?;
     if is_ill_sized(catalogue.sites(), room, k) {
@@ -84,7 +86,8 @@ fn find_in_row<M: Measure, N: Links<M>>(
     width: usize,
 ) -> Result<Option<Route<M>>, Refusal>
     requires inside { start + width ≤ length rows.old }
-    requires unrefused { topmost (route_causes M.Measure.kind (N.Links.span network.now) (length (labels_of workspace.old)) k ask width) ≡ None }
+    requires unrefused { topmost (route_causes M.Measure.kind
+        (N.Links.span network.now) (length (labels_of workspace.old)) k ask width) ≡ None }
     ensures same { SameWorkspace workspace.old workspace.new }
     ensures labels { AllFree M.Measure.kind (labels_of workspace.new) }
     ensures answer { RowAnswer M.Measure.kind (network_with (N.Links.span network.now) (N.Links.links network.now)) k ask rows.old start width result rows.new }
@@ -104,7 +107,8 @@ fn answer_card<M: Measure>(
     mark: Mark,
 ) -> Result<Option<Route<M>>, Refusal>
     requires inside { card < length book.old.cards.now }
-    requires unrefused { topmost (route_causes M.Measure.kind (sites_of catalogue.now) (length (labels_of workspace.old)) k ask (book_of book.old).width) ≡ None }
+    requires unrefused { topmost (route_causes M.Measure.kind
+        (sites_of catalogue.now) (length (labels_of workspace.old)) k ask (book_of book.old).width) ≡ None }
     ensures same { SameWorkspace workspace.old workspace.new }
     ensures labels { AllFree M.Measure.kind (labels_of workspace.new) }
     ensures answer { CardAnswer M.Measure.kind (network_of catalogue.now) k ask mark (book_of book.old) card result (book_of book.new) }

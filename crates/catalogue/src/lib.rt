@@ -46,7 +46,7 @@ pub trait Links<M: Measure> {
     fn link(&self, place: usize) -> Option<Link<M>>
         ensures { result ≡ at (links self.now) place };
 
-    // whatever holds links is sound
+    // the links that are held are sound
     ghost sound: { (n : Self) → Sound M.Measure.kind (span n) (links n) };
 }
 

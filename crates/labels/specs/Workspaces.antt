@@ -1,4 +1,4 @@
--- How large a workspace is, and what it is between two searches.
+-- How large a workspace is, and what it is between two calls.
 use Rattle.std.specs.Prelude.{ℕ, ◌*◌, Bool, not, ◌||◌, List, length, ◌==◌, nat_lt}
 use Rattle.measure.specs.Kind.{Kind}
 use Rattle.labels.specs.declared.Slot.{Slot}

@@ -108,7 +108,8 @@ impl Line<'_> {
     // Puts the line into a sink: one that counts it, or one that writes it.
     fn put<S: Sink>(self, sink: &mut S)
         ensures bytes { S.took sink.old (line_of self.entry.number self.entry.reply self.entry.legs.now) sink.new }
-        ensures short { length self.entry.legs.now < 256 → length (line_of self.entry.number self.entry.reply self.entry.legs.now) ≤ 2048 }
+        ensures short { length self.entry.legs.now < 256 →
+            length (line_of self.entry.number self.entry.reply self.entry.legs.now) ≤ 2048 }
     {
         put_number(self.number, sink);
         self.reply.put(self.legs, sink);
@@ -117,7 +118,8 @@ impl Line<'_> {
 
     // Whether the buffer has room for the line from the start place on.
     fn fits(self, buffer: &[u8], start: usize) -> bool
-        ensures fits { result ≡ nat_le (start + length (line_of self.entry.number self.entry.reply self.entry.legs.now)) (length buffer.now) }
+        ensures fits { result ≡ nat_le
+            (start + length (line_of self.entry.number self.entry.reply self.entry.legs.now)) (length buffer.now) }
         ensures room { length self.entry.legs.now < 256 → start + 2048 ≤ length buffer.now → result ≡ true }
     {
         let mut end = End(start);

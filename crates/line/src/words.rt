@@ -27,7 +27,7 @@ pub(crate) enum Word {
     Share(Ratio),
 }
 
-// A number as a word: its type says that it has twenty digits at the most.
+// A number as a word: of 64 bits it has twenty digits at the most.
 #[tactic(auto, using(crate::proofs::Lengths::twenty_digits))]
 pub(crate) fn number_word(n: usize) -> Word
     ensures word { result ≡ Word.Number n }

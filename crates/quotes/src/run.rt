@@ -65,8 +65,8 @@ fn carry_out<M: Measure>(
     }
 }
 
-// Carries out one call. Whatever calls a catalogue and the quote book that was opened with it have seen, in any order, any of them
-// refused: a standing card with a route has the best one in the catalogue, a standing card with none has none, and where a site was said
+// Carries out one call. Whatever calls a catalogue and the quote book that was opened with it, in sizes that are not refused, have seen, in
+// any order, any of them refused: a standing card with a route has the best one in the catalogue, a standing card with none has none, and where a site was said
 // to be full, there were more walks to it than its labels hold. This call is one more of them.
 pub fn perform<M: Measure>(
     catalogue: &mut Catalogue<'_, M>,

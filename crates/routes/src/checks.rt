@@ -137,7 +137,7 @@ fn check_legs<M: Measure + PartialEq + Debug>(
     Ok(())
 }
 
-// A place as no search leaves it, with notes that lead nowhere.
+// A place as no call leaves it, with notes that lead nowhere.
 pub(crate) fn used_slot<M: Measure>() -> Slot<M> {
     Slot {
         label: Label {

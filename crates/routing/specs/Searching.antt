@@ -27,7 +27,7 @@ abbrev pub Answered : {V L : Type 0} → Kind V L → List (Option (Link V)) →
 Answered K links k ask was is (Ok answer) = (legs : List ℕ) × Found K links ask answer legs × (is ≡ row_with legs (length was))
 Answered K links k ask was is (Err why) = (site : ℕ) × (why ≡ LabelsFull site) × Overfull K links ask k site × (is ≡ was)
 
--- the full outcome: a refusal leaves all as it was; otherwise every label is free at the end, and the answer is right
+-- the full outcome: a refusal before it begins leaves all as it was; otherwise every label is free at the end, and the answer is right
 abbrev pub Searched : {V L : Type 0} → Kind V L → ℕ → List (Option (Link V)) → ℕ → Ask L → List (Slot V) → List (Slot V) → List ℕ → List ℕ → Result (Option (Route V)) Refusal → Type 0
 Searched K sites links k ask labels labels' row row' r =
     elim (topmost (route_causes K sites (length labels) k ask (length row))) [

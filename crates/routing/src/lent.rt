@@ -1,4 +1,4 @@
-//! The memory that is lent to a search.
+//! The memory that is lent to routing.
 ghost use Rattle.std.specs.Prelude.{◌≡◌, length, map};
 ghost use Rattle.std.proofs.Props.{props};
 ghost use Rattle.labels.specs.Labels.{freed};
@@ -8,7 +8,7 @@ use crate::scan::free_all;
 use labels::Slot;
 use measure::Measure;
 
-// Places for labels that the caller lends: between two searches every one is free.
+// Places for labels that the caller lends: between two calls every one is free.
 #[derive(Drop)]
 pub struct Workspace<'a, M: Measure> {
     pub(crate) slots: &'a mut [Slot<M>],
