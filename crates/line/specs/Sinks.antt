@@ -1,19 +1,33 @@
 -- What a sink takes: bytes that are counted, and bytes that are written.
-use Rattle.std.specs.Prelude.{◌≡◌, ℕ, ◌+◌, ◌-◌, ◌^◌, ◌≤◌, List, [], ◌++◌, length, min, take, drop, Ok}
+use Rattle.std.specs.Prelude.{◌≡◌, ℕ, ◌+◌, ◌-◌, ◌≤◌, cond, nat_le, List, [], ◌++◌, length, take, drop, Ok, Some, None, Option}
+use Rattle.std.proofs.lemmas.Bool.Decides.{nat_tests}
 use Rattle.std.proofs.Common.{refl, sym, ap, ◌∙◌, append_assoc, arith, length-append, length-take, length-drop, take-append-drop, drop-drop, take_at, drop_at}
 use Rattle.report.specs.Buffers.{Put}
-use Rattle.line.specs.declared.sinks.End.{End}
+use Rattle.line.specs.declared.sinks.Room.{Room}
 use Rattle.line.specs.declared.sinks.Writer.{Writer}
 
--- the place has moved on by the bytes, or as far as a number can
-abbrev pub Counted : End → List ℕ → End → Type 0
-Counted s bytes t = min t.0 (2 ^ 64 - 1) ≡ min (s.0 + length bytes) (2 ^ 64 - 1)
+-- the room that is left after so many bytes, if they have room
+abbrev pub left : Option ℕ → ℕ → Option ℕ
+left None count = None
+left (Some room) count = cond (nat_le count room) (Some (room - count)) None
 
-pub counted_none : (s : End) → Counted s [] s
-counted_none s = omega arith
+-- the bytes took their room
+abbrev pub Counted : Room → List ℕ → Room → Type 0
+Counted s bytes t = t.0 ≡ left s.0 (length bytes)
 
-pub counted_both : (s t u : End) (a b : List ℕ) → Counted s a t → Counted t b u → Counted s (a ++ b) u
-counted_both s t u a b p q = simp length-append (omega arith)
+left_none : (room : Option ℕ) → room ≡ left room 0
+left_none None = refl
+left_none (Some room) = grind (arith, nat_tests)
+
+left_both : (room : Option ℕ) (m n : ℕ) → left (left room m) n ≡ left room (m + n)
+left_both None m n = refl
+left_both (Some room) m n = grind (arith, nat_tests)
+
+pub counted_none : (s : Room) → Counted s [] s
+counted_none s = left_none s.0
+
+pub counted_both : (s t u : Room) (a b : List ℕ) → Counted s a t → Counted t b u → Counted s (a ++ b) u
+counted_both s t u a b p q = simp length-append (q ∙ ap (λ room. left room (length b)) p ∙ left_both s.0 (length a) (length b))
 
 -- where there is room for the bytes, they were written at the writer's place, which moved on by them
 abbrev pub Written : Writer → List ℕ → Writer → Type 0

@@ -9,7 +9,7 @@ ghost use Rattle.report.specs.Buffers.{Put};
 mod sinks;
 mod words;
 
-use crate::sinks::{End, Sink, Writer};
+use crate::sinks::{Room, Sink, Writer};
 use crate::words::{Word, number_word, put_number, put_words, share_word};
 use measure::Ratio;
 use measure::pair::Trunk;
@@ -122,9 +122,9 @@ impl Line<'_> {
             (start + length (line_of self.entry.number self.entry.reply self.entry.legs.now)) (length buffer.now) }
         ensures room { length self.entry.legs.now < 256 → start + 2048 ≤ length buffer.now → result ≡ true }
     {
-        let mut end = End(start);
-        self.put(&mut end);
-        end.0 <= buffer.len()
+        let mut room = Room(buffer.len().checked_sub(start));
+        self.put(&mut room);
+        room.0.is_some()
     }
 }
 

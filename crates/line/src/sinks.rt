@@ -1,6 +1,6 @@
 //! What a line is put into, part after part: one sink counts the bytes, and one writes them.
-ghost use Rattle.std.specs.Prelude.{ℕ, List, [], ◌++◌};
-ghost use Rattle.line.specs.Sinks.{Counted, Written, counted_none, counted_both, written_none, written_both};
+ghost use Rattle.std.specs.Prelude.{◌≡◌, ℕ, ◌≤◌, true, List, [], ◌∷◌, ◌++◌, length, decimal};
+ghost use Rattle.line.specs.Sinks.{left, Counted, Written, counted_none, counted_both, written_none, written_both};
 
 // A sink takes all that is put into it. std's `fmt::Write` may fail, and its contract leaves open when a `write!` does,
 // so by it a line that has no room could not be told from one that failed.
@@ -11,17 +11,44 @@ pub(crate) trait Sink {
     fn put(&mut self, bytes: &[u8])
         ensures { took self.old bytes.now self.new };
 
+    // A number in decimal. std prints numbers through `fmt` alone, whose contract does not say when it succeeds.
+    fn put_number(&mut self, n: usize)
+        ensures { took self.old (decimal n) self.new };
+
+    // Whether it stays as it is, whatever else is put into it.
+    fn is_full(&self) -> bool
+        ensures { result ≡ true → (bytes : List ℕ) → took self.now bytes self.now };
+
     // No bytes change nothing, and bytes that are put after others were put with them.
     ghost nothing: { (s : Self) → took s [] s };
 
     ghost both: { (s t u : Self) (a b : List ℕ) → took s a t → took t b u → took s (a ++ b) u };
 }
 
-// The place after what was put, from a start place on. Past the greatest number it stays there.
-#[derive(Drop)]
-pub(crate) struct End(pub(crate) usize);
+// How many digits a number has.
+fn digits(n: usize) -> usize
+    ensures count { result ≡ length (decimal n) }
+    ensures few { result ≤ 20 }
+{
+    if n < 10 { 1 } else { digits(n / 10) + 1 }
+}
 
-impl Sink for End {
+// How much room is left for more bytes: none at all once more were put than there was room for.
+#[derive(Drop)]
+pub(crate) struct Room(pub(crate) Option<usize>);
+
+impl Room {
+    // Takes room for so many bytes.
+    fn take(&mut self, count: usize)
+        ensures { self.new.0 ≡ left self.old.0 count }
+    {
+        if let Some(room) = self.0 {
+            self.0 = room.checked_sub(count);
+        }
+    }
+}
+
+impl Sink for Room {
     ghost took = { Counted };
 
     ghost nothing = { counted_none };
@@ -29,7 +56,15 @@ impl Sink for End {
     ghost both = { counted_both };
 
     fn put(&mut self, bytes: &[u8]) {
-        self.0 = self.0.saturating_add(bytes.len());
+        self.take(bytes.len())
+    }
+
+    fn put_number(&mut self, n: usize) {
+        self.take(digits(n))
+    }
+
+    fn is_full(&self) -> bool {
+        self.0.is_none()
     }
 }
 
@@ -39,6 +74,29 @@ impl Sink for End {
 pub(crate) struct Writer<'a> {
     pub(crate) buffer: &'a mut [u8],
     pub(crate) at: usize,
+}
+
+impl Writer<'_> {
+    // Writes one byte, without a slice of it: digits come one by one.
+    fn put_byte(&mut self, byte: u8)
+        ensures { Written self.old (byte ∷ []) self.new }
+    {
+        if self.at < self.buffer.len() {
+            self.buffer[self.at] = byte;
+            self.at += 1;
+        }
+    }
+
+    // Writes a number in decimal.
+    fn put_digits(&mut self, n: usize)
+        ensures { Written self.old (decimal n) self.new }
+    {
+        if n < 10 {
+            return self.put_byte(b'0' + n as u8);
+        }
+        self.put_digits(n / 10);
+        self.put_byte(b'0' + (n % 10) as u8);
+    }
 }
 
 impl Sink for Writer<'_> {
@@ -54,5 +112,13 @@ impl Sink for Writer<'_> {
             self.buffer[self.at..end].copy_from_slice(bytes);
             self.at = end;
         }
+    }
+
+    fn put_number(&mut self, n: usize) {
+        self.put_digits(n)
+    }
+
+    fn is_full(&self) -> bool {
+        false
     }
 }

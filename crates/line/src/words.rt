@@ -7,17 +7,13 @@ ghost use Rattle.line.specs.Words.{spelled, share_of};
 use crate::sinks::Sink;
 use measure::Ratio;
 
-// Puts a number in decimal. std prints numbers through `fmt` alone, whose contract does not say when it succeeds.
+// Puts a number in decimal: of 64 bits it has twenty digits at the most.
 #[tactic(auto, using(crate::proofs::Lengths::twenty_digits))]
 pub(crate) fn put_number<S: Sink>(n: usize, sink: &mut S)
     ensures digits { S.took sink.old (decimal n) sink.new }
     ensures short { length (decimal n) ≤ 20 }
 {
-    if n < 10 {
-        return sink.put(&[b'0' + n as u8]);
-    }
-    put_number(n / 10, sink);
-    sink.put(&[b'0' + (n % 10) as u8]);
+    sink.put_number(n)
 }
 
 #[derive(Clone, Copy)]
@@ -51,18 +47,18 @@ impl Word {
     {
         match self {
             Word::Text(text) => sink.put(text),
-            Word::Number(n) => put_number(n, sink),
+            Word::Number(n) => sink.put_number(n),
             Word::Share(ratio) => {
-                put_number(ratio.top as usize, sink);
+                sink.put_number(ratio.top as usize);
                 sink.put(b"/");
-                put_number(ratio.bottom as usize, sink);
+                sink.put_number(ratio.bottom as usize);
             }
         }
     }
 }
 
-// Puts the words and then the legs into a sink, each after one space. One `for` over the chain of the two got no proof:
-// in a function with a type parameter the check refuses its own statement of what such a chain yields.
+// Puts the words and then the legs into a sink, each after one space; a sink that is full needs no more legs. One `for` over the chain of
+// the two got no proof: in a function with a type parameter the check refuses its own statement of what such a chain yields.
 pub(crate) fn put_words<S: Sink>(words: &[Word], legs: &[u16], sink: &mut S)
     ensures { S.took sink.old (flat_map after_space (map spelled words.now ++ map decimal legs.now)) sink.new }
 {
@@ -71,7 +67,10 @@ pub(crate) fn put_words<S: Sink>(words: &[Word], legs: &[u16], sink: &mut S)
         word.put(sink);
     }
     for leg in legs {
+        if sink.is_full() {
+            return;
+        }
         sink.put(b" ");
-        put_number(*leg as usize, sink);
+        sink.put_number(*leg as usize);
     }
 }
