@@ -4,7 +4,7 @@
 //! is a feed of no bytes. A line that begins with `#` is a remark, and is printed as it is.
 #![tactic(auto)]
 
-use service::serve_input;
+use service::{ServiceError, serve_input};
 use std::alloc::Global;
 use std::io::Write;
 
@@ -39,7 +39,8 @@ fn main(rt: HostRuntime) -> anyhow::Result<()> {
             continue;
         }
         let feed = feed_of(&rt, &line)?;
-        serve_input(&mut feed.as_slice(), &mut out)?;
+        let served = serve_input(&mut feed.as_slice(), &mut out);
+        served.map_err(|error| ServiceError::Io(error))?;
     }
     Ok(())
 }

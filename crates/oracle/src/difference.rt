@@ -9,6 +9,8 @@ pub enum Difference {
     Size,
     // A request was carried out otherwise than it should be.
     Call { request: Request, wrong: Wrong },
+    // After all calls on a catalogue a label is not as it was marked, which no workspace held that was lent.
+    Labels,
     // A feed's bytes read, or a record was written, otherwise than foreseen.
     Reading,
     Writing,

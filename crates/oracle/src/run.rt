@@ -1,7 +1,8 @@
 //! A catalogue and its quote book, small and drawn at random, and a run of calls on them.
-use crate::difference::{Difference, Wrong};
+use crate::difference::{Difference, Wrong, ensure};
 use crate::feeds::try_bytes;
 use crate::kind::Kind;
+use crate::lent::{are_marked, marked_slot};
 use crate::model::{Model, foresee_elsewhere};
 use crate::random::Random;
 use crate::request::{Draw, Style};
@@ -13,7 +14,6 @@ use catalogue::{Catalogue, Link};
 use labels::Slot;
 use measure::Measure;
 use quotes::QuoteBook;
-use routing::free_slot;
 use std::alloc::{AllocError, Global};
 
 // How many catalogues of each kind are tried.
@@ -47,7 +47,7 @@ fn lend<M: Kind>(alloc: Global) -> Result<Memory<M>, AllocError> {
         links: vec![in alloc; None; PLACES]?,
         cards: vec![in alloc; None; CARDS]?,
         other_cards: vec![in alloc; None; OTHER_CARDS]?,
-        labels: vec![in alloc; free_slot::<M>(); WORKSPACE]?,
+        labels: vec![in alloc; marked_slot::<M>(); WORKSPACE]?,
     })
 }
 
@@ -101,6 +101,8 @@ fn try_calls<M: Kind>(
     for _ in 0..CALLS {
         try_call(trial, random, style)?;
     }
+    let labels = &mut *trial.labels;
+    ensure(are_marked(labels), Difference::Labels)?;
     count(&mut trial.tally.catalogues);
     Ok(())
 }

@@ -4,7 +4,7 @@ use crate::cause::Cause;
 use crate::crowd::is_crowd;
 use crate::difference::{Wrong, ensure};
 use crate::kind::Kind;
-use crate::lent::{BLANK, are_as_left, has_only, mark_labels, room_for};
+use crate::lent::{BLANK, are_as_left, are_marked, has_only, mark_labels, room_for};
 use crate::model::{Forecast, Foreseen, LEGS, Model, PlainCard, PlainRoute, Sought};
 use crate::request::Request;
 use crate::tally::{Tally, count};
@@ -140,17 +140,18 @@ impl<M: Kind> Trial<'_, M> {
     // Has the request carried out by the library, and compares what it answers and what comes back with what the model foresees.
     pub(crate) fn take(&mut self, turn: Turn) -> Result<(), Wrong> {
         let (label_room, number_room) = room_for(turn.request);
-        let labels = &mut *self.labels;
-        let room = label_room.min(labels.len());
-        mark_labels(labels);
-        let mut workspace = Workspace::new(&mut labels[0..room]);
+        let room = label_room.min(self.labels.len());
+        let labels = &mut self.labels[0..room];
+        ensure(are_marked(labels), Wrong::Workspace)?;
+        let mut workspace = Workspace::new(labels);
         // an array, as a reply is lent
         let mut numbers = [BLANK; LEGS];
         let lent = &mut numbers[0..number_room.min(LEGS)];
         let book = pick(&mut self.book, &mut self.other, turn.is_elsewhere);
         let reply = carry_out(&mut self.catalogue, book, &mut workspace, lent, turn);
         self.tally.note_reply(reply);
-        ensure(are_as_left(labels, room), Wrong::Workspace)?;
+        ensure(are_as_left(labels, turn.forecast), Wrong::Workspace)?;
+        mark_labels(labels);
         ensure(self.are_numbers_right(turn, lent), Wrong::Numbers)?;
         self.check_reply(turn.forecast, reply)
     }
