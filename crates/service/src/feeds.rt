@@ -38,7 +38,7 @@ fn numbered(feed: &[u8]) -> Zip<RangeFrom<usize>, Records<'_>>
     (1..).zip(read_records(feed))
 }
 
-impl Service<'_, '_> {
+impl Service<'_, '_, '_, '_, '_, '_, '_> {
     // Serves one record, and writes its line: the legs that it prints are the first numbers of the reply.
     pub fn serve_record<W: Write>(
         &mut self,

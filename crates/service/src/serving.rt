@@ -13,16 +13,18 @@ use records::Record;
 use routing::Workspace;
 
 // A catalogue and its quote book, and what is lent to each of their calls: a workspace of k labels a site, and numbers for a route's legs.
+// Each loan has a lifetime of its own, and so has the memory that catalogue, quote book and workspace stand in: they need not come from one
+// place.
 #[derive(Drop)]
-pub struct Service<'s, 'm> {
-    pub catalogue: &'s mut Catalogue<'m, Trunk>,
-    pub book: &'s mut QuoteBook<'m, Trunk>,
-    pub workspace: &'s mut Workspace<'m, Trunk>,
+pub struct Service<'catalogue, 'links, 'book, 'cards, 'workspace, 'labels, 'reply> {
+    pub catalogue: &'catalogue mut Catalogue<'links, Trunk>,
+    pub book: &'book mut QuoteBook<'cards, Trunk>,
+    pub workspace: &'workspace mut Workspace<'labels, Trunk>,
     pub k: usize,
-    pub reply: &'s mut [u16],
+    pub reply: &'reply mut [u16],
 }
 
-impl Service<'_, '_> {
+impl Service<'_, '_, '_, '_, '_, '_, '_> {
     // Carries out a call with all that can be lent to it.
     fn perform(&mut self, call: Call<Trunk, TrunkLimit>) -> Reply<Trunk>
         ensures outcome { Performed self.old call result self.new }

@@ -37,14 +37,13 @@ pub struct Storage<'m> {
     pub input: &'m mut [u8],
 }
 
-// Serves a feed on a catalogue and a quote book, with k labels a site. It stands by itself, since a service holds them and what is lent to
-// their calls at one lifetime, and here all come at one.
-fn serve_day<'s, 'm, W: Write>(
-    catalogue: &'s mut Catalogue<'m, Trunk>,
-    book: &'s mut QuoteBook<'m, Trunk>,
-    workspace: &'s mut Workspace<'m, Trunk>,
+// Serves a feed on a catalogue and a quote book, with k labels a site, wherever these and what is lent to their calls come from.
+fn serve_day<W: Write>(
+    catalogue: &mut Catalogue<'_, Trunk>,
+    book: &mut QuoteBook<'_, Trunk>,
+    workspace: &mut Workspace<'_, Trunk>,
     k: usize,
-    reply: &'s mut [u16],
+    reply: &mut [u16],
     out: &mut W,
     feed: &[u8],
 ) -> io::Result<()>
