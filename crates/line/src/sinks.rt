@@ -1,5 +1,5 @@
 //! What a line is put into, part after part: one sink counts the bytes, and one writes them.
-ghost use Rattle.std.specs.Prelude.{◌≡◌, ℕ, ◌≤◌, true, List, [], ◌∷◌, ◌++◌, length, decimal};
+ghost use Rattle.std.specs.Prelude.{◌≡◌, ℕ, ◌≤◌, true, List, [], ◌++◌, length, drop, decimal};
 ghost use Rattle.line.specs.Sinks.{left, Counted, Written, counted_none, counted_both, written_none, written_both};
 
 // A sink takes all that is put into it. std's `fmt::Write` may fail, and its contract leaves open when a `write!` does,
@@ -31,6 +31,24 @@ fn digits(n: usize) -> usize
     ensures few { result ≤ 20 }
 {
     if n < 10 { 1 } else { digits(n / 10) + 1 }
+}
+
+// Spells a number in decimal at the end of the text, and returns the place of its first digit.
+fn spell(n: usize, text: &mut [u8]) -> usize
+    requires { 20 ≤ length text.old }
+    ensures inside { result ≤ length text.new }
+    ensures digits { drop result text.new ≡ decimal n }
+{
+    let mut rest = n;
+    let mut first = text.len();
+    while rest >= 10 {
+        first -= 1;
+        text[first] = b'0' + (rest % 10) as u8;
+        rest /= 10;
+    }
+    first -= 1;
+    text[first] = b'0' + rest as u8;
+    first
 }
 
 // How much room is left for more bytes: none at all once more were put than there was room for.
@@ -76,29 +94,6 @@ pub(crate) struct Writer<'a> {
     pub(crate) at: usize,
 }
 
-impl Writer<'_> {
-    // Writes one byte, without a slice of it: digits come one by one.
-    fn put_byte(&mut self, byte: u8)
-        ensures { Written self.old (byte ∷ []) self.new }
-    {
-        if self.at < self.buffer.len() {
-            self.buffer[self.at] = byte;
-            self.at += 1;
-        }
-    }
-
-    // Writes a number in decimal.
-    fn put_digits(&mut self, n: usize)
-        ensures { Written self.old (decimal n) self.new }
-    {
-        if n < 10 {
-            return self.put_byte(b'0' + n as u8);
-        }
-        self.put_digits(n / 10);
-        self.put_byte(b'0' + (n % 10) as u8);
-    }
-}
-
 impl Sink for Writer<'_> {
     ghost took = { Written };
 
@@ -115,7 +110,9 @@ impl Sink for Writer<'_> {
     }
 
     fn put_number(&mut self, n: usize) {
-        self.put_digits(n)
+        let mut text = [0u8; 20];
+        let first = spell(n, &mut text);
+        self.put(&text[first..]);
     }
 
     fn is_full(&self) -> bool {
