@@ -1,6 +1,6 @@
 //! The links of a network by the site that they leave: lists that are kept in spare fields of the places that routing is lent, so that a
 //! label is extended by the links of its own site alone. A list is noted at a site's number and at each of its links' places.
-ghost use Rattle.std.specs.Prelude.{◌≡◌, ℕ, ◌+◌, ◌<◌, ◌≤◌, length};
+ghost use Rattle.std.specs.Prelude.{◌≡◌, ℕ, ◌+◌, ◌<◌, ◌≤◌, false, length};
 ghost use Rattle.labels.specs.Labels.{slot};
 ghost use Rattle.labels.specs.Outgoing.{Skips, Lands, Listed};
 ghost use Rattle.labels.specs.Tournament.{SameLabels};
@@ -68,7 +68,28 @@ pub(crate) fn list_links<M: Measure, N: Links<M>>(network: &N, slots: &mut [Slot
     }
 }
 
-// The first place with a link from the site: past the last where none leaves it. Where there are no lists, the first place of all.
+// Whether a link leaves the site from the place.
+fn leaves<M: Measure, N: Links<M>>(network: &N, site: usize, place: usize) -> bool
+    ensures none { result ≡ false → Skips (N.Links.links network.now) site place (place + 1) }
+{
+    match network.link(place) {
+        Some(link) => link.start as usize == site,
+        None => false,
+    }
+}
+
+// The first place from this one on with a link from the site, found without lists: past the last where there is none.
+fn scan_from<M: Measure, N: Links<M>>(network: &N, site: usize, from: usize) -> usize
+    ensures skips { Skips (N.Links.links network.now) site from result }
+{
+    let mut place = from;
+    while place < network.places() && !leaves(network, site, place) {
+        place += 1;
+    }
+    place
+}
+
+// The first place with a link from the site: past the last where none leaves it.
 pub(crate) fn first_link<M: Measure, N: Links<M>>(
     network: &N,
     slots: &[Slot<M>],
@@ -81,13 +102,13 @@ pub(crate) fn first_link<M: Measure, N: Links<M>>(
     ensures lands { length (N.Links.links network.now) ≤ length slots.now → Lands (N.Links.links network.now) site result }
 {
     if network.places() > slots.len() {
-        0
+        scan_from(network, site, 0)
     } else {
         slots[site].first as usize
     }
 }
 
-// The place of the next link from the site after the one at `i`: past the last where none is left. Where there are no lists, the next place.
+// The place of the next link from the site after the one at `i`: past the last where none is left.
 pub(crate) fn link_after<M: Measure, N: Links<M>>(
     network: &N,
     slots: &[Slot<M>],
@@ -102,7 +123,7 @@ pub(crate) fn link_after<M: Measure, N: Links<M>>(
     ensures lands { length (N.Links.links network.now) ≤ length slots.now → Lands (N.Links.links network.now) site result }
 {
     if network.places() > slots.len() {
-        i + 1
+        scan_from(network, site, i + 1)
     } else {
         slots[i].next as usize
     }
