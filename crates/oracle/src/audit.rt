@@ -8,16 +8,15 @@ use crate::tally::count;
 use crate::turn::Trial;
 use catalogue::Links;
 use report::Mark;
-use std::alloc::AllocError;
 
 // Whether the standing card says what is so: its answer is the best, and its legs are a walk of that value and number of legs.
-fn is_right(model: &Model, card: &PlainCard) -> Result<bool, AllocError> {
-    if !model.is_best(card.ask, card.answer)? {
-        return Ok(false);
+fn is_right(model: &Model, card: &PlainCard) -> bool {
+    if !model.is_best(card.ask, card.answer) {
+        return false;
     }
     match card.answer {
-        None => Ok(true),
-        Some(route) => { Ok(route.legs == card.legs.len() && model.is_route(card, route.value)?) }
+        None => true,
+        Some(route) => route.legs == card.legs.len() && model.is_route(card, route.value),
     }
 }
 
@@ -41,7 +40,7 @@ impl<M: Kind> Trial<'_, M> {
             && held.mark == Mark::Standing
         {
             count(&mut self.tally.standing);
-            ensure(is_right(&self.model, held)?, Wrong::Standing(card))?;
+            ensure(is_right(&self.model, held), Wrong::Standing(card))?;
         }
         Ok(())
     }

@@ -1,7 +1,6 @@
 //! Where the library and the model disagree.
 use crate::calls::PlainReply;
 use crate::request::Request;
-use std::alloc::AllocError;
 
 #[derive(Clone, Copy, Debug, Drop)]
 pub enum Difference {
@@ -14,8 +13,6 @@ pub enum Difference {
     // A feed's bytes read, or a record was written, otherwise than foreseen.
     Reading,
     Writing,
-    // There is no memory left to compare in.
-    NoMemory,
 }
 
 // What is wrong with a call.
@@ -36,22 +33,9 @@ pub enum Wrong {
     Card(usize),
     // Afterwards the standing card is wrong.
     Standing(usize),
-    NoMemory,
 }
 
 // Nothing, if what should hold does, and the error if not.
 pub(crate) fn ensure<E: Drop>(holds: bool, error: E) -> Result<(), E> {
     if holds { Ok(()) } else { Err(error) }
-}
-
-impl From<AllocError> for Difference {
-    fn from(_error: AllocError) -> Difference {
-        Difference::NoMemory
-    }
-}
-
-impl From<AllocError> for Wrong {
-    fn from(_error: AllocError) -> Wrong {
-        Wrong::NoMemory
-    }
 }

@@ -6,7 +6,7 @@ pub const OVER: u64 = 2147483648;
 
 // The numbers of a value or a limit. A kind that is weighed by delay alone has zeros beside it in its values, and ones in its limits.
 // Values come in the order of their delays, then of their prices, then of their classes.
-#[derive(Clone, Copy, PartialEq, Eq, PartialOrd, Ord, Debug)]
+#[derive(Clone, Copy, PartialEq, Eq, PartialOrd, Ord, Debug, Default)]
 pub struct Figures {
     pub delay: u64,
     pub price: u64,

@@ -6,9 +6,14 @@ use crate::difference::ensure;
 use crate::doubts::{News, put_in_doubt};
 use crate::figures::{Figures, Share, is_admitted, is_limit};
 use crate::request::Request;
+use arrayvec::ArrayVec;
 use report::Mark;
-use std::alloc::{AllocError, Global};
-use std::mem;
+use std::{array, mem};
+
+// The most link places and card places that are tried.
+pub const PLACES: usize = 10;
+
+pub const CARDS: usize = 3;
 
 // Room for the legs of a route: more than there are sites.
 pub const LEGS: usize = 8;
@@ -41,7 +46,7 @@ pub struct PlainCard {
     pub ask: PlainAsk,
     pub answer: Option<PlainRoute>,
     pub mark: Mark,
-    pub legs: Vec<u16>,
+    pub legs: ArrayVec<u16, LEGS>,
 }
 
 // What routing is to find: the best route for what is asked, with k labels a site, for the card.
@@ -64,11 +69,10 @@ pub type Forecast = Result<Foreseen, Cause>;
 
 #[derive(Drop)]
 pub struct Model {
-    pub alloc: Global,
     pub sites: usize,
     // A link or none for each link place.
-    pub links: Vec<Option<PlainLink>>,
-    pub cards: Vec<Option<PlainCard>>,
+    pub links: ArrayVec<Option<PlainLink>, PLACES>,
+    pub cards: ArrayVec<Option<PlainCard>, CARDS>,
 }
 
 impl PlainCard {
@@ -87,20 +91,16 @@ fn is_site(sites: usize, site: u16) -> bool {
 }
 
 impl Model {
-    pub(crate) fn open(
-        alloc: Global,
-        sites: usize,
-        link_places: usize,
-        card_places: usize,
-    ) -> Result<Model, AllocError> {
-        let mut cards = Vec::new(alloc);
-        cards.resize_with(card_places, || None)?;
-        Ok(Model {
-            alloc,
+    pub(crate) fn open(sites: usize, link_places: usize, card_places: usize) -> Model {
+        let mut links = ArrayVec::from([None; PLACES]);
+        links.truncate(link_places);
+        let mut cards = ArrayVec::from(array::from_fn(|_| None));
+        cards.truncate(card_places);
+        Model {
             sites,
-            links: vec![in alloc; None; link_places]?,
+            links,
             cards,
-        })
+        }
     }
 
     pub(crate) fn link(&self, place: usize) -> Option<PlainLink> {

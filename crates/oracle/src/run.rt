@@ -1,9 +1,9 @@
 //! A catalogue and its quote book, small and drawn at random, and a run of calls on them.
-use crate::difference::{Difference, Wrong, ensure};
+use crate::difference::{Difference, ensure};
 use crate::feeds::try_bytes;
 use crate::kind::Kind;
-use crate::lent::{are_marked, marked_slot};
-use crate::model::{Model, foresee_elsewhere};
+use crate::lent::are_marked;
+use crate::model::{CARDS, Model, foresee_elsewhere};
 use crate::random::Random;
 use crate::request::{Draw, Style};
 use crate::sizes::try_sizes;
@@ -14,7 +14,6 @@ use catalogue::{Catalogue, Link};
 use labels::Slot;
 use measure::Measure;
 use quotes::QuoteBook;
-use std::alloc::{AllocError, Global};
 
 // How many catalogues of each kind are tried.
 const CATALOGUES: usize = 50_000;
@@ -22,33 +21,25 @@ const CATALOGUES: usize = 50_000;
 // How many calls are made on a catalogue.
 const CALLS: usize = 60;
 
-// The most link places and card places that are tried.
-const PLACES: usize = 10;
+// The most sites that are tried.
+const SITES: usize = 5;
 
-const CARDS: usize = 3;
+// A number for each card place and site.
+const ROWS: usize = CARDS * SITES;
 
 // How many card places the quote book has that is for another number of sites.
-const OTHER_CARDS: usize = 2;
+pub const OTHER_CARDS: usize = 2;
 
-// Labels for the most sites that are tried and for more walks at each than is allowed.
-const WORKSPACE: usize = 325;
+// A number for each of these and each site, and one site more.
+const OTHER_ROWS: usize = OTHER_CARDS * (SITES + 1);
 
 // What is lent to one catalogue after the other, to its quote book and one for another number of sites, and to their calls.
 #[derive(Drop)]
-struct Memory<M: Measure> {
-    links: Vec<Option<Link<M>>>,
-    cards: Vec<Option<Card<M, M::Limit>>>,
-    other_cards: Vec<Option<Card<M, M::Limit>>>,
-    labels: Vec<Slot<M>>,
-}
-
-fn lend<M: Kind>(alloc: Global) -> Result<Memory<M>, AllocError> {
-    Ok(Memory {
-        links: vec![in alloc; None; PLACES]?,
-        cards: vec![in alloc; None; CARDS]?,
-        other_cards: vec![in alloc; None; OTHER_CARDS]?,
-        labels: vec![in alloc; marked_slot::<M>(); WORKSPACE]?,
-    })
+pub struct Memory<'a, M: Measure> {
+    pub links: &'a mut [Option<Link<M>>],
+    pub cards: &'a mut [Option<Card<M, M::Limit>>],
+    pub other_cards: &'a mut [Option<Card<M, M::Limit>>],
+    pub labels: &'a mut [Slot<M>],
 }
 
 // What the values of a catalogue are multiplied by: 1, or so much that sums come to the end of their range.
@@ -86,10 +77,7 @@ fn try_call<M: Kind>(
         is_elsewhere,
     };
     let compared = trial.take(turn).and_then(|()| trial.audit());
-    compared.map_err(|wrong| match wrong {
-        Wrong::NoMemory => Difference::NoMemory,
-        wrong => Difference::Call { request, wrong },
-    })
+    compared.map_err(|wrong| Difference::Call { request, wrong })
 }
 
 // Makes a run of calls. It stands by itself, so that a check of it need not carry the memory that the catalogue is opened over.
@@ -109,8 +97,7 @@ fn try_calls<M: Kind>(
 
 // Opens a catalogue and its quote book, and another quote book of another size, and makes a run of calls.
 fn try_catalogue<M: Kind>(
-    alloc: Global,
-    memory: &mut Memory<M>,
+    memory: &mut Memory<'_, M>,
     random: &mut Random,
     tally: &mut Tally,
 ) -> Result<(), Difference> {
@@ -122,15 +109,24 @@ fn try_catalogue<M: Kind>(
         scale,
         has_all: M::HAS_ALL,
     };
-    let mut rows = vec![in alloc; 0; card_places * sites]?;
-    let other_numbers = random.below(3) + OTHER_CARDS * sites;
-    let mut other_rows = vec![in alloc; 0; other_numbers]?;
+    let mut rows = [0; ROWS];
+    let numbers = (card_places * sites).min(ROWS);
+    let mut other_rows = [0; OTHER_ROWS];
+    let other_numbers = (random.below(3) + OTHER_CARDS * sites).min(OTHER_ROWS);
     let mut trial = Trial {
         catalogue: Catalogue::open(&mut memory.links[0..places], sites),
-        book: QuoteBook::open(&mut memory.cards[0..card_places], &mut rows, sites),
-        other: QuoteBook::open(&mut memory.other_cards, &mut other_rows, sites + 1),
-        labels: &mut memory.labels,
-        model: Model::open(alloc, sites, places, card_places)?,
+        book: QuoteBook::open(
+            &mut memory.cards[0..card_places],
+            &mut rows[0..numbers],
+            sites,
+        ),
+        other: QuoteBook::open(
+            &mut *memory.other_cards,
+            &mut other_rows[0..other_numbers],
+            sites + 1,
+        ),
+        labels: &mut *memory.labels,
+        model: Model::open(sites, places, card_places),
         tally,
     };
     try_calls(&mut trial, random, style)
@@ -138,25 +134,23 @@ fn try_catalogue<M: Kind>(
 
 // Tries a catalogue, and beside it sizes of others and the bytes of a feed.
 fn try_one<M: Kind>(
-    alloc: Global,
-    memory: &mut Memory<M>,
+    memory: &mut Memory<'_, M>,
     random: &mut Random,
     tally: &mut Tally,
 ) -> Result<(), Difference> {
-    try_catalogue(alloc, memory, random, tally)?;
+    try_catalogue(memory, random, tally)?;
     try_sizes(random, tally)?;
     try_bytes(random, tally)
 }
 
 // Tries catalogues of one kind, one after the other in the same places.
 pub(crate) fn try_kind<M: Kind>(
-    alloc: Global,
+    memory: &mut Memory<'_, M>,
     random: &mut Random,
     tally: &mut Tally,
 ) -> Result<(), Difference> {
-    let mut memory = lend::<M>(alloc)?;
     for _ in 0..CATALOGUES {
-        try_one(alloc, &mut memory, random, tally)?;
+        try_one(memory, random, tally)?;
     }
     Ok(())
 }

@@ -1,20 +1,19 @@
 //! One call, by the library and by the model, and what of its answer can be compared at once.
 use crate::calls::{PlainAnswer, PlainRefusal, PlainReply, carry_out, read_card};
 use crate::cause::Cause;
-use crate::crowd::is_crowd;
 use crate::difference::{Wrong, ensure};
 use crate::kind::Kind;
 use crate::lent::{BLANK, are_as_left, are_marked, has_only, mark_labels, room_for};
 use crate::model::{Forecast, Foreseen, LEGS, Model, PlainCard, PlainRoute, Sought};
 use crate::request::Request;
 use crate::tally::{Tally, count};
+use arrayvec::ArrayVec;
 use catalogue::Catalogue;
 use labels::Slot;
 use measure::Measure;
 use quotes::QuoteBook;
 use report::{Mark, Returned};
 use routing::Workspace;
-use std::alloc::AllocError;
 
 // A request, what it should be answered, whether it goes by its own call or by the one for all, and whether to the quote book that is for
 // another number of sites.
@@ -60,27 +59,26 @@ impl<M: Kind> Trial<'_, M> {
         reply: PlainReply,
     ) -> Result<(), Wrong> {
         let site = full_site(returned).ok_or(Wrong::NotFull(reply))?;
-        let values = self.model.values_to(sought.ask, site)?;
-        let is_full = is_crowd(self.model.alloc, values, sought.k)?;
+        let is_full = self.model.is_crowded(sought, site);
         ensure(is_full, Wrong::NotFull(reply))?;
         count(&mut self.tally.full);
         Ok(())
     }
 
     // Files on the model's card what routing answered for it, with the legs in the card's row, as a reading gives them.
-    fn file(&mut self, sought: Sought, answer: Option<PlainRoute>) -> Result<(), AllocError> {
+    fn file(&mut self, sought: Sought, answer: Option<PlainRoute>) {
         // an array, as a reply is lent
         let mut numbers = [BLANK; LEGS];
         let _reply = read_card(&self.book, sought.card, &mut numbers, 0);
-        let legs = answer.map_or(0, |route| route.legs).min(LEGS);
+        let mut legs = ArrayVec::from(numbers);
+        legs.truncate(answer.map_or(0, |route| route.legs));
         let card = PlainCard {
             ask: sought.ask,
             answer,
             mark: Mark::Standing,
-            legs: numbers[0..legs].to_vec(self.model.alloc)?,
+            legs,
         };
         self.model.file(sought.card, card);
-        Ok(())
     }
 
     // Compares what routing answered, a route or none, and files it.
@@ -90,9 +88,9 @@ impl<M: Kind> Trial<'_, M> {
         answer: Option<PlainRoute>,
         reply: PlainReply,
     ) -> Result<(), Wrong> {
-        let is_best = self.model.is_best(sought.ask, answer)?;
+        let is_best = self.model.is_best(sought.ask, answer);
         ensure(is_best, Wrong::NotBest(reply))?;
-        self.file(sought, answer)?;
+        self.file(sought, answer);
         match answer {
             Some(_) => count(&mut self.tally.routes),
             None => count(&mut self.tally.nones),
