@@ -5,7 +5,7 @@ use service::{ServiceError, serve_input};
 
 fn main(rt: HostRuntime) -> anyhow::Result<()> {
     let served = serve_input(&mut rt.stdin(), &mut rt.stdout());
-    // as its message says what failed, which an error of reading or writing does not by itself
+    // an io::Error's own message does not say that it is the input or the output that failed
     served.map_err(|error| ServiceError::Io(error))?;
     Ok(())
 }
